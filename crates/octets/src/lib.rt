@@ -1,0 +1,32 @@
+// Bytes, and the big-endian numbers that they make.
+ghost use mathlib.Core.Path.{_≡_};
+ghost use Prim.Native.Nat.{_+_, _≤_};
+ghost use lib.ListN.{length};
+ghost use Rattle.octets.specs.Word.{wordOf, wordAt, bytesOf};
+
+// The word whose bytes are a, b, c and d, the highest first.
+pub fn word(a: u8, b: u8, c: u8, d: u8) -> u32
+    ensures { λ r. ⌜ r ≡ wordOf a b c d ⌝ }
+{
+    (((a as u32) * 256 + (b as u32)) * 256 + (c as u32)) * 256 + (d as u32)
+}
+
+// The word that stands in s from index `at` on.
+pub fn word_at(s: &[u8], at: usize) -> u32
+    requires { ⌜ at + 4 ≤ length (now s) ⌝ }
+    ensures { λ r. ⌜ r ≡ wordAt (now (s .entry)) at ⌝ }
+{
+    word(s[at], s[at + 1], s[at + 2], s[at + 3])
+}
+
+// The four bytes of w, the highest first.
+pub fn bytes(w: u32) -> [u8; 4]
+    ensures { λ r. ⌜ r ≡ bytesOf w ⌝ }
+{
+    [
+        (w / 16777216 % 256) as u8,
+        (w / 65536 % 256) as u8,
+        (w / 256 % 256) as u8,
+        (w % 256) as u8,
+    ]
+}
