@@ -1,4 +1,5 @@
-//! Links the host's build of the proved crates, which `bench/run` makes first.
+//! Links the host's build of the cipher that is timed, which `bench/run` makes first. The library
+//! itself comes with `outside`.
 
 fn main() {
     let libraries = concat!(env!("CARGO_MANIFEST_DIR"), "/../target/host");

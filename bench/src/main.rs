@@ -1,9 +1,14 @@
 //! The proved code beside the reference program, timed in one run on the host itself.
 
+use outside::Call;
+use reference::mode;
 use std::time::{Duration, Instant};
 
-/// The bytes that every measured call works on.
-const SIZE: usize = 65_536;
+/// The longest text that a call takes.
+const LONGEST: usize = 65_536;
+
+const IV: [u8; 12] = [0; 12];
+const TAG_LEN: usize = 16;
 
 mod proved {
     extern "C" {
@@ -30,8 +35,13 @@ mod plain {
     }
 }
 
+/// Bytes that differ from place to place.
+fn bytes(len: usize) -> Vec<u8> {
+    (0..len).map(|i| (i * 7) as u8).collect()
+}
+
 /// The MB/s of the fastest of many calls: what disturbs a call only ever slows it down.
-fn speed(mut call: impl FnMut()) -> f64 {
+fn speed(size: usize, mut call: impl FnMut()) -> f64 {
     let mut best = Duration::MAX;
     let start = Instant::now();
     while start.elapsed() < Duration::from_secs(1) {
@@ -39,31 +49,84 @@ fn speed(mut call: impl FnMut()) -> f64 {
         call();
         best = best.min(begun.elapsed());
     }
-    SIZE as f64 / best.as_secs_f64() / 1e6
+    size as f64 / best.as_secs_f64() / 1e6
+}
+
+/// Prints a line of the table: the speed of both programs at `size` bytes, each working on a buffer
+/// of its own that begins as given.
+fn line(
+    what: &str,
+    size: usize,
+    buffer: Vec<u8>,
+    proved: impl Fn(&mut [u8]),
+    plain: impl Fn(&mut [u8]),
+) {
+    let label = format!("{what}, {size} bytes");
+    let (mut ours, mut theirs) = (buffer.clone(), buffer);
+    proved(&mut ours);
+    plain(&mut theirs);
+    assert!(ours == theirs, "{label}: the two programs differ");
+
+    let proved = speed(size, || proved(&mut ours));
+    let plain = speed(size, || plain(&mut theirs));
+    let ratio = proved / plain;
+    println!("{label:<36}{proved:>12.1}{plain:>12.1}{ratio:>8.2}");
+}
+
+/// Sealing or opening what is given, as work on the output alone; it must fill it.
+fn fill<'a>(call: Call, key: &'a [u8], given: &'a [u8]) -> impl Fn(&mut [u8]) + 'a {
+    move |out| {
+        let result = call(key, &IV, &[], given, TAG_LEN, out);
+        assert_eq!(result, (mode::DONE, out.len()));
+    }
+}
+
+fn cipher(bits: usize) {
+    let key = bytes(bits / 8);
+    line(
+        &format!("cipher, {bits}-bit key"),
+        LONGEST,
+        bytes(LONGEST),
+        |blocks| proved::encipher(&key, blocks),
+        |blocks| plain::encipher(&key, blocks),
+    );
+}
+
+fn seal(bits: usize, size: usize) {
+    let (key, text) = (bytes(bits / 8), bytes(size));
+    line(
+        &format!("seal, {bits}-bit key"),
+        size,
+        vec![0; size + TAG_LEN],
+        fill(outside::seal, &key, &text),
+        fill(mode::seal, &key, &text),
+    );
+}
+
+fn open(bits: usize) {
+    let (key, text) = (bytes(bits / 8), bytes(LONGEST));
+    let sealed = mode::seal_vec(&key, &IV, &[], &text, TAG_LEN).expect("lengths that are allowed");
+    line(
+        &format!("open, {bits}-bit key"),
+        LONGEST,
+        vec![0; LONGEST],
+        fill(outside::open, &key, &sealed),
+        fill(mode::open, &key, &sealed),
+    );
 }
 
 fn main() {
     println!(
-        "{:<28}{:>12}{:>12}{:>8}",
-        format!("{SIZE} bytes, MB/s"),
-        "ewplander",
-        "reference",
-        "ratio"
+        "{:<36}{:>12}{:>12}{:>8}",
+        "MB/s", "ewplander", "reference", "ratio"
     );
-    for bits in [128, 256] {
-        let key: Vec<u8> = (0..bits / 8).map(|i| i as u8).collect();
-        let mut ours: Vec<u8> = (0..SIZE).map(|i| (i * 7) as u8).collect();
-        let mut theirs = ours.clone();
-        proved::encipher(&key, &mut ours);
-        plain::encipher(&key, &mut theirs);
-        assert!(ours == theirs, "the two programs differ");
-
-        let proved = speed(|| proved::encipher(&key, &mut ours));
-        let plain = speed(|| plain::encipher(&key, &mut theirs));
-        println!(
-            "{:<28}{proved:>12.1}{plain:>12.1}{:>8.2}",
-            format!("cipher, {bits}-bit key"),
-            proved / plain
-        );
-    }
+    cipher(128);
+    cipher(256);
+    // One speed at each length: the cost grows as the text does.
+    seal(128, 4_096);
+    seal(128, 16_384);
+    seal(128, LONGEST);
+    seal(256, LONGEST);
+    open(128);
+    open(256);
 }

@@ -1,1 +1,2 @@
+pub mod CipherLaws
 mod ScheduleLaws

@@ -1,7 +1,7 @@
 -- How the words of a schedule fill a room of sixty, one after the other. The words so far are as many as their count
 -- says, so the next one lands on the first of the zeros behind them.
 use mathlib.Core.Path.{_≡_, refl, _∙_, ap}
-use mathlib.Core.List.{List, [], _∷_, _++_, append-assoc}
+use mathlib.Core.List.{List, append-assoc}
 use Prim.Native.Nat.{ℕ, zero, suc, _+_, _-_, _<_, _≤_}
 use native.Mathlib.Numerals.{add-one}
 use native.Mathlib.Omega.{arith}

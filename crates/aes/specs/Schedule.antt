@@ -1,5 +1,5 @@
 -- The key schedule, over n key words: 4 for a key of 16 bytes, 8 for one of 32 (FIPS 197: KEYEXPANSION).
-use mathlib.Core.Bool.{Bool, true, false}
+use mathlib.Core.Bool.{cond}
 use mathlib.Core.List.{List, [], _∷_, _++_}
 use Prim.Native.Nat.{ℕ, zero, suc, _+_, _-_, _*_, _/_, _%_}
 use lib.Bits.{bitXor}
@@ -39,23 +39,19 @@ constants = 0x01 ∷ 0x02 ∷ 0x04 ∷ 0x08 ∷ 0x10 ∷ 0x20 ∷ 0x40 ∷ 0x80 
 abbrev pub constant : ℕ → ℕ
 constant k = getD constants (k - 1) 0
 
-abbrev pub either : Bool → ℕ → ℕ → ℕ
-either true a b = a
-either false a b = b
-
 -- where n is 8 and i mod 8 is 4, the word substituted; else the word
 unfoldable pub halfway : ℕ → ℕ → ℕ → ℕ
-halfway n i last = either (eqb n 8) (either (eqb (i % 8) 4) (substitutedWord last) last) last
+halfway n i last = cond (eqb n 8) (cond (eqb (i % 8) 4) (substitutedWord last) last) last
 
 -- the value t of word i, where word i - 1 is `last`
 unfoldable pub changed : ℕ → ℕ → ℕ → ℕ
 changed n i last =
-    either (eqb (i % n) 0) (bitXor (substitutedWord (turned last)) (wordOf (constant (i / n)) 0 0 0)) (halfway n i last)
+    cond (eqb (i % n) 0) (bitXor (substitutedWord (turned last)) (wordOf (constant (i / n)) 0 0 0)) (halfway n i last)
 
 -- word i, from the words before it: words 0 to n - 1 are the key, and word i is word i - n xor t
 unfoldable pub wordAfter : ℕ → List ℕ → ℕ → List ℕ → ℕ
 wordAfter n key i words =
-    either (ltb i n) (keyWord key i) (bitXor (getD words (i - n) 0) (changed n i (getD words (i - 1) 0)))
+    cond (ltb i n) (keyWord key i) (bitXor (getD words (i - n) 0) (changed n i (getD words (i - 1) 0)))
 
 -- words 0 to i - 1
 unfoldable pub firstWords : ℕ → List ℕ → ℕ → List ℕ

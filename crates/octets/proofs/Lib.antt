@@ -1,1 +1,4 @@
+pub mod BlockLaws
+pub mod BytesLaws
 pub mod Tested
+pub mod XorLaws

@@ -1,26 +1,22 @@
 -- A test that is computed at every number below n shows its fact at each of them: one test and one law, however many
 -- the numbers. The law is an induction on n.
 use mathlib.Core.Path.{subst⁻¹}
-use mathlib.Core.Bool.{Bool, true, false}
+use mathlib.Core.Bool.{Bool, true, false, _&&_}
 use mathlib.Core.Logic.{⊎-elim}
 use Prim.Native.Nat.{ℕ, zero, suc, _<_}
 use native.Mathlib.Nat.{eq-or-lt-of-le, le-of-suc-le-suc, not-suc-le-zero}
 use lib.Dec.{T}
 
-abbrev pub and : Bool → Bool → Bool
-and true b = b
-and false b = false
-
 -- the test passes at each number below n
 abbrev pub passes : (ℕ → Bool) → ℕ → Bool
 passes test zero = true
-passes test (suc n) = and (test n) (passes test n)
+passes test (suc n) = test n && passes test n
 
-first : (a b : Bool) → T (and a b) → T a
+first : (a b : Bool) → T (a && b) → T a
 first true b t = tt
 first false b t = t
 
-second : (a b : Bool) → T (and a b) → T b
+second : (a b : Bool) → T (a && b) → T b
 second true b t = t
 second false b t = absurd t
 

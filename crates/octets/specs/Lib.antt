@@ -1,1 +1,3 @@
+pub mod Block
+pub mod Bytes
 pub mod Word

@@ -1,7 +1,8 @@
 // Bytes, and the big-endian numbers that they make.
 ghost use mathlib.Core.Path.{_≡_};
-ghost use Prim.Native.Nat.{_+_, _≤_};
+ghost use Prim.Native.Nat.{_+_, _*_, _^_, _≤_};
 ghost use lib.ListN.{length};
+ghost use Rattle.octets.specs.Block.{longAt};
 ghost use Rattle.octets.specs.Word.{wordOf, wordAt, bytesOf};
 
 // The word whose bytes are a, b, c and d, the highest first.
@@ -29,4 +30,19 @@ pub fn bytes(w: u32) -> [u8; 4]
         (w / 256 % 256) as u8,
         (w % 256) as u8,
     ]
+}
+
+// The number whose upper 32 bits are `high` and whose lower 32 bits are `low`.
+pub fn long(high: u32, low: u32) -> u64
+    ensures { λ r. ⌜ r ≡ high * 2 ^ 32 + low ⌝ }
+{
+    (high as u64) * 4294967296 + (low as u64)
+}
+
+// The number that eight bytes of s make, from index `at` on.
+pub fn long_at(s: &[u8], at: usize) -> u64
+    requires { ⌜ at + 8 ≤ length (now s) ⌝ }
+    ensures { λ r. ⌜ r ≡ longAt (now (s .entry)) at ⌝ }
+{
+    long(word_at(s, at), word_at(s, at + 4))
 }

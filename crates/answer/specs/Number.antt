@@ -1,0 +1,31 @@
+-- The number of each answer in document 01.
+use Prim.Native.Nat.{ℕ}
+use Rattle.answer.specs.declared.Answer.{Answer}
+use Rattle.answer.specs.declared.Answer.the-variants.{
+  Done,
+  KeyLength,
+  IvLength,
+  TagLength,
+  AdLong,
+  TextLong,
+  SealedShort,
+  OutputShort,
+  TagDiffers,
+  WrongPhase,
+  Stale,
+  Used,
+}
+
+abbrev pub numberOf : Answer → ℕ
+numberOf Done = 0
+numberOf KeyLength = 1
+numberOf IvLength = 2
+numberOf TagLength = 3
+numberOf AdLong = 4
+numberOf TextLong = 5
+numberOf SealedShort = 6
+numberOf OutputShort = 7
+numberOf TagDiffers = 8
+numberOf WrongPhase = 9
+numberOf Stale = 10
+numberOf Used = 11

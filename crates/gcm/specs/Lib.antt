@@ -1,0 +1,4 @@
+pub mod Mode
+pub mod Passed
+pub mod Promise
+pub mod Rows

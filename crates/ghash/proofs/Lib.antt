@@ -1,0 +1,4 @@
+pub mod ElementLaws
+pub mod FieldLaws
+pub mod HashLaws
+pub mod SumLaws
