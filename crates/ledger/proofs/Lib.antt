@@ -1,0 +1,3 @@
+pub mod HistoryLaws
+pub mod MarkLaws
+pub mod WindowLaws
