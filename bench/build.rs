@@ -1,9 +1,11 @@
-//! Links the host's build of the cipher that is timed, which `bench/run` makes first. The library
-//! itself comes with `outside`.
+//! Links the host's builds of the cipher and the channel that are timed, which `bench/run` makes
+//! first. The library itself comes with `outside`.
 
 fn main() {
     let libraries = concat!(env!("CARGO_MANIFEST_DIR"), "/../target/host");
     println!("cargo:rustc-link-search=native={libraries}");
-    println!("cargo:rustc-link-lib=static=bench_cipher");
-    println!("cargo:rerun-if-changed={libraries}/libbench_cipher.a");
+    for library in ["bench_cipher", "bench_channel"] {
+        println!("cargo:rustc-link-lib=static={library}");
+        println!("cargo:rerun-if-changed={libraries}/lib{library}.a");
+    }
 }

@@ -8,17 +8,46 @@ use std::time::{Duration, Instant};
 const LONGEST: usize = 65_536;
 
 const IV: [u8; 12] = [0; 12];
+
+/// The IV of the message that is fed in pieces: its channel's mark, then its number.
+const FED_IV: [u8; 12] = [10, 11, 12, 13, 0, 0, 0, 0, 0, 0, 1, 2];
+
 const TAG_LEN: usize = 16;
 
 mod proved {
     extern "C" {
         fn bench_encipher(key: *const u8, key_len: usize, blocks: *mut u8, blocks_len: usize);
+        fn bench_pieces(
+            key: *const u8,
+            key_len: usize,
+            text: *const u8,
+            text_len: usize,
+            piece: usize,
+            out: *mut u8,
+            out_len: usize,
+        ) -> u32;
     }
 
     /// Enciphers each block where it stands.
     pub fn encipher(key: &[u8], blocks: &mut [u8]) {
         // SAFETY: a slice goes over as its pointer and its length, and the two do not overlap.
         unsafe { bench_encipher(key.as_ptr(), key.len(), blocks.as_mut_ptr(), blocks.len()) }
+    }
+
+    /// Seals the text in pieces, the ciphertext to the front of `out`; the last call's answer.
+    pub fn pieces(key: &[u8], text: &[u8], piece: usize, out: &mut [u8]) -> u32 {
+        // SAFETY: a slice goes over as its pointer and its length, and `out` overlaps no other.
+        unsafe {
+            bench_pieces(
+                key.as_ptr(),
+                key.len(),
+                text.as_ptr(),
+                text.len(),
+                piece,
+                out.as_mut_ptr(),
+                out.len(),
+            )
+        }
     }
 }
 
@@ -53,14 +82,14 @@ fn speed(size: usize, mut call: impl FnMut()) -> f64 {
 }
 
 /// Prints a line of the table: the speed of both programs at `size` bytes, each working on a buffer
-/// of its own that begins as given.
+/// of its own that begins as given. It gives the proved program's.
 fn line(
     what: &str,
     size: usize,
     buffer: Vec<u8>,
     proved: impl Fn(&mut [u8]),
     plain: impl Fn(&mut [u8]),
-) {
+) -> f64 {
     let label = format!("{what}, {size} bytes");
     let (mut ours, mut theirs) = (buffer.clone(), buffer);
     proved(&mut ours);
@@ -70,7 +99,8 @@ fn line(
     let proved = speed(size, || proved(&mut ours));
     let plain = speed(size, || plain(&mut theirs));
     let ratio = proved / plain;
-    println!("{label:<36}{proved:>12.1}{plain:>12.1}{ratio:>8.2}");
+    println!("{label:<48}{proved:>12.1}{plain:>12.1}{ratio:>8.2}");
+    proved
 }
 
 /// Sealing or opening what is given, as work on the output alone; it must fill it.
@@ -92,7 +122,7 @@ fn cipher(bits: usize) {
     );
 }
 
-fn seal(bits: usize, size: usize) {
+fn seal(bits: usize, size: usize) -> f64 {
     let (key, text) = (bytes(bits / 8), bytes(size));
     line(
         &format!("seal, {bits}-bit key"),
@@ -100,7 +130,24 @@ fn seal(bits: usize, size: usize) {
         vec![0; size + TAG_LEN],
         fill(outside::seal, &key, &text),
         fill(mode::seal, &key, &text),
-    );
+    )
+}
+
+/// A message fed in pieces, beside the reference program's sealing of it at once. The output has
+/// room for a tag, which only the latter writes there: it is cleared before the two are compared.
+fn feed(bits: usize, piece: usize) -> f64 {
+    let (key, text) = (bytes(bits / 8), bytes(LONGEST));
+    line(
+        &format!("feed, {bits}-bit key, pieces of {piece}"),
+        LONGEST,
+        vec![0; LONGEST + TAG_LEN],
+        |out| assert_eq!(proved::pieces(&key, &text, piece, out), 0),
+        |out| {
+            let result = mode::seal(&key, &FED_IV, &[], &text, TAG_LEN, out);
+            assert_eq!(result, (mode::DONE, out.len()));
+            out[LONGEST..].fill(0);
+        },
+    )
 }
 
 fn open(bits: usize) {
@@ -117,7 +164,7 @@ fn open(bits: usize) {
 
 fn main() {
     println!(
-        "{:<36}{:>12}{:>12}{:>8}",
+        "{:<48}{:>12}{:>12}{:>8}",
         "MB/s", "ewplander", "reference", "ratio"
     );
     cipher(128);
@@ -125,8 +172,13 @@ fn main() {
     // One speed at each length: the cost grows as the text does.
     seal(128, 4_096);
     seal(128, 16_384);
-    seal(128, LONGEST);
+    let at_once = seal(128, LONGEST);
     seal(256, LONGEST);
     open(128);
     open(256);
+    let by_64 = feed(128, 64);
+    feed(128, 1_024);
+    let label = "feed in pieces of 64 beside our own seal at once";
+    let ratio = by_64 / at_once;
+    println!("{label:<72}{ratio:>8.2}");
 }

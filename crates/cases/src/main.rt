@@ -1,10 +1,15 @@
-// Document 01's cases: each is run, and written as a line of hex behind its name.
+// Document 01's cases: each is run, and written as a line behind its name, bytes in hex.
+mod station;
+
 use libc::STDOUT_FILENO;
 ghost use Prim.Native.Nat.{_<_};
 
 fn main() {
     encipher_examples();
     seal_zeros();
+    station::numbers();
+    station::in_pieces();
+    station::refusals();
 }
 
 // FIPS 197's example block under its keys of 128 and 256 bits.

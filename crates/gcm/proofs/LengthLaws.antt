@@ -46,7 +46,7 @@ unfolding lowest
 row n true rows none = never (sym none ∙ eqb·suc-zero n)
 row n false rows none = (refl, none)
 
-key-fits : (n : ℕ) → keyBad n ≡ false → (16 ≤ n) × (n ≤ 32)
+pub key-fits : (n : ℕ) → keyBad n ≡ false → (16 ≤ n) × (n ≤ 32)
 unfolding keyBad
 key-fits n good = go (eqb n 16) (eqb n 32) refl refl good
   where
@@ -56,7 +56,7 @@ key-fits n good = go (eqb n 16) (eqb n 32) refl refl good
     go false false e f good = never good
 
 -- a length that is neither below the least nor above the most
-within : (n low high : ℕ) → (ltb n low || ltb high n) ≡ false → n ≤ high
+pub within : (n low high : ℕ) → (ltb n low || ltb high n) ≡ false → n ≤ high
 within n low high good = go (ltb n low) (ltb high n) refl good
   where
     go : (a b : Bool) → ltb high n ≡ b → (a || b) ≡ false → n ≤ high

@@ -15,11 +15,11 @@ use Rattle.gcm.specs.Rows.{lowest, sealRows, openLengthRows}
 use Rattle.gcm.specs.Promise.{ifDone, sealNumber, openNumber, SealPromise, OpenPromise, OpenedBy}
 use Rattle.gcm.proofs.LengthLaws.{never, refused, went-on, second-answers}
 
-if-refused : {A : Type 0} (n : ℕ) (a b : A) → eqb n 0 ≡ false → b ≡ ifDone n a b
+pub if-refused : {A : Type 0} (n : ℕ) (a b : A) → eqb n 0 ≡ false → b ≡ ifDone n a b
 if-refused zero a b refusal = never refusal
 if-refused (suc n) a b refusal = refl
 
-if-done : {A : Type 0} (n : ℕ) (a b : A) → eqb n 0 ≡ true → a ≡ ifDone n a b
+pub if-done : {A : Type 0} (n : ℕ) (a b : A) → eqb n 0 ≡ true → a ≡ ifDone n a b
 if-done zero a b done = refl
 if-done (suc n) a b done = never (sym done ∙ eqb·suc-zero n)
 

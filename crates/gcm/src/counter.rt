@@ -78,7 +78,7 @@ fn at_most_16(n: usize) -> usize
 }
 
 // n bytes of the text from index `at` on, xored with the block, to the same places of `out`.
-fn xor_into(out: &mut [u8], at: usize, text: &[u8], block: [u8; 16], n: usize)
+pub fn xor_into(out: &mut [u8], at: usize, text: &[u8], block: [u8; 16], n: usize)
     requires { ⌜ (n ≤ 16) × (length block ≡ 16) ⌝ }
     requires { ⌜ (at + n ≤ length (now text)) × (at + n ≤ length (now out)) ⌝ }
     ensures { λ _. ⌜ now (out .exit) ≡ paste (now (out .entry)) at (xored (drop at (now (text .entry))) block) n ⌝ }

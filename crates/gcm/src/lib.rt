@@ -1,7 +1,7 @@
 // AES-GCM at once: SP 800-38D's mode over FIPS 197's cipher. Any lengths may be handed in; document 01's rows refuse bad ones.
-mod counter;
-mod rows;
-mod tag;
+pub mod counter;
+pub mod rows;
+pub mod tag;
 
 use aes::expand;
 use answer::Answer;

@@ -82,7 +82,7 @@ fn length_answer(key: usize, iv: usize, ad: usize, text: usize, tag: usize) -> A
     Answer::Done
 }
 
-fn key_bad(n: usize) -> bool
+pub fn key_bad(n: usize) -> bool
     ensures { λ r. ⌜ r ≡ keyBad n ⌝ }
 {
     if n == 16 {
@@ -100,7 +100,7 @@ fn iv_bad(n: usize) -> bool
     LONGEST_IV < n
 }
 
-fn tag_bad(n: usize) -> bool
+pub fn tag_bad(n: usize) -> bool
     ensures { λ r. ⌜ r ≡ tagBad n ⌝ }
 {
     if n < 12 {
@@ -109,19 +109,19 @@ fn tag_bad(n: usize) -> bool
     16 < n
 }
 
-fn ad_bad(n: usize) -> bool
+pub fn ad_bad(n: usize) -> bool
     ensures { λ r. ⌜ r ≡ adBad n ⌝ }
 {
     LONGEST_AD < n
 }
 
-fn text_bad(n: usize) -> bool
+pub fn text_bad(n: usize) -> bool
     ensures { λ r. ⌜ r ≡ textBad n ⌝ }
 {
     LONGEST_TEXT < n
 }
 
-fn too_short(n: usize, wanted: usize) -> bool
+pub fn too_short(n: usize, wanted: usize) -> bool
     ensures { λ r. ⌜ r ≡ tooShort n wanted ⌝ }
 {
     n < wanted

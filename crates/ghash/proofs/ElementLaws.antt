@@ -1,5 +1,5 @@
 -- An element and its block tell each other: a number is its upper part and its 64 low bits.
-use mathlib.Core.Path.{_≡_, ap₂}
+use mathlib.Core.Path.{_≡_, _∙_, ap, ap₂, sym}
 use Prim.Native.Nat.{ℕ, _^_, _<_}
 use lib.Arith.{digits-lt}
 use lib.Pow.{split, high, low}
@@ -20,3 +20,7 @@ element-value e below = ap₂ (λ (h l : ℕ). record { high = h; low = l }) (hi
 pub value-lt : (e : Element) → e .high < 2 ^ 64 → e .low < 2 ^ 64 → valueOf e < 2 ^ 128
 unfolding valueOf
 value-lt e upper lower = digits-lt {m = 2 ^ 64} {c = 2 ^ 64} upper lower
+
+-- an element is that of its value
+pub element-is : (e : Element) {x : ℕ} → e .low < 2 ^ 64 → valueOf e ≡ x → e ≡ elementOf x
+element-is e below value = sym (element-value e below) ∙ ap elementOf value

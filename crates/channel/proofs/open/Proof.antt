@@ -1,0 +1,53 @@
+-- `channel::open` keeps its promise, refused or done.
+use mathlib.Core.Path.{_∙_}
+use lib.ListN.{length}
+use Rattle.gcm.proofs.PromiseLaws.{if-refused, if-done}
+use Rattle.channel.specs.State.{openingNumber, newChannel, deadChannel, openingOf}
+use Rattle.channel.proofs.StateLaws.{stopped, passed, opening-fits}
+use borrow.Author.Needs.{needs}
+use Rattle.channel.proofs.open.Statement.{statement}
+use Rattle.channel.proofs.open.Tie as tie
+
+opening-answer-requires : tie.Need-opening-answer-requires
+opening-answer-requires c κs = search needs
+
+is-done-requires : tie.Need-is-done-requires
+is-done-requires c κs = search needs
+
+dead-requires : tie.Need-dead-requires
+dead-requires c κs = search needs
+
+returns : tie.Need-returns
+unfolding openingOf
+returns c =
+    let given = c .before .before .before .before .before .args in
+    let n = openingNumber (length (given .key .now)) (given .tag-len) in
+    let asked = c .before .before .before .opening-answer .ensures in
+    let refusal = stopped n asked (c .before .before .is-done .ensures) (c .before .if1 .taken) in
+    record { answer = asked; channel = c .dead .ensures ∙ if-refused n _ deadChannel refusal }
+
+new-channel-requires : tie.Need-new-channel-requires
+new-channel-requires c κs =
+    let given = c .before .before .before .before .args in
+    let clear = passed _ (c .before .before .opening-answer .ensures) (c .before .is-done .ensures) (c .if1 .left) in
+    opening-fits (length (given .key .now)) (given .tag-len) clear
+
+returns-2 : tie.Need-returns-2
+unfolding openingOf
+returns-2 c =
+    let given = c .before .before .before .before .before .args in
+    let n = openingNumber (length (given .key .now)) (given .tag-len) in
+    let asked = c .before .before .before .opening-answer .ensures in
+    let clear = passed n asked (c .before .before .is-done .ensures) (c .before .if1 .left) in
+    record { answer = asked; channel = c .new-channel .ensures ∙ if-done n (newChannel (given .key .now) (given .mark .0) (given .tag-len)) deadChannel clear }
+
+pub open-spec : {M : Type 1} → statement M
+open-spec =
+    tie.close
+    (tie.spec
+    opening-answer-requires
+    is-done-requires
+    dead-requires
+    returns
+    new-channel-requires
+    returns-2)

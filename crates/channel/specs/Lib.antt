@@ -1,0 +1,4 @@
+pub mod Message
+pub mod Promise
+pub mod Run
+pub mod State

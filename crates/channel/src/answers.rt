@@ -1,0 +1,74 @@
+// What each call of a channel answers. The phase is looked at first.
+use super::Channel;
+use answer::Answer;
+use gcm::rows::ad_bad;
+use gcm::rows::key_bad;
+use gcm::rows::tag_bad;
+use gcm::rows::text_bad;
+use gcm::rows::too_short;
+use ledger::verdict;
+ghost use mathlib.Core.Path.{_≡_};
+ghost use Prim.Native.Nat.{_<_, _^_};
+ghost use Rattle.answer.specs.Number.{numberOf};
+ghost use Rattle.channel.specs.State.{busy, idle, openingNumber, beginNumber, feedNumber};
+
+pub fn opening_answer(key: usize, tag: usize) -> Answer
+    ensures { λ r. ⌜ numberOf r ≡ openingNumber key tag ⌝ }
+{
+    if key_bad(key) {
+        return Answer::KeyLength;
+    }
+    if tag_bad(tag) {
+        return Answer::TagLength;
+    }
+    Answer::Done
+}
+
+pub fn begin_answer(c: Channel, n: u64, ad: usize) -> Answer
+    ensures { λ r. ⌜ numberOf r ≡ beginNumber c n ad ⌝ }
+{
+    if is_busy(c) {
+        return Answer::WrongPhase;
+    }
+    if ad_bad(ad) {
+        return Answer::AdLong;
+    }
+    let ledger = c.ledger;
+    verdict(ledger, n)
+}
+
+pub fn feed_answer(c: Channel, piece: usize, room: usize) -> Answer
+    requires { ⌜ piece < 2 ^ 63 ⌝ }
+    ensures { λ r. ⌜ numberOf r ≡ feedNumber c piece room ⌝ }
+{
+    if is_idle(c) {
+        return Answer::WrongPhase;
+    }
+    if text_bad(c.message.text as usize + piece) {
+        return Answer::TextLong;
+    }
+    if too_short(room, piece) {
+        return Answer::OutputShort;
+    }
+    Answer::Done
+}
+
+// Dead, or with a message open.
+fn is_busy(c: Channel) -> bool
+    ensures { λ r. ⌜ r ≡ busy c ⌝ }
+{
+    if c.tag == 0 {
+        return true;
+    }
+    c.message.phase != 0
+}
+
+// Dead, or with no message open.
+pub fn is_idle(c: Channel) -> bool
+    ensures { λ r. ⌜ r ≡ idle c ⌝ }
+{
+    if c.tag == 0 {
+        return true;
+    }
+    c.message.phase == 0
+}
