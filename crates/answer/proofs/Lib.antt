@@ -1,1 +1,2 @@
+pub mod DoneLaws
 pub mod NumberLaws

@@ -1,5 +1,5 @@
 -- The number of each answer in document 01.
-use Prim.Native.Nat.{ℕ}
+use Prim.Native.Nat.{ℕ, zero, suc}
 use Rattle.answer.specs.declared.Answer.{Answer}
 use Rattle.answer.specs.declared.Answer.the-variants.{
   Done,
@@ -29,3 +29,8 @@ numberOf TagDiffers = 8
 numberOf WrongPhase = 9
 numberOf Stale = 10
 numberOf Used = 11
+
+-- the first where the answer's number is 0, the second where it is a refusal's
+abbrev pub ifDone {ℓ} : {A : Type ℓ} → ℕ → A → A → A
+ifDone zero a b = a
+ifDone (suc n) a b = b

@@ -1,10 +1,3 @@
-pub mod CryptAtLaws
-pub mod CutLaws
 pub mod DeterminedLaws
-pub mod DifferLaws
-pub mod HeldLaws
 pub mod MessageLaws
-pub mod PieceLaws
-pub mod RunLaws
-pub mod SixteenLaws
 pub mod StateLaws

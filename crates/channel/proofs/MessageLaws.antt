@@ -9,6 +9,7 @@ use borrow.Author.Tests.{not-false, ltb-false}
 use lib.Bits.{bitXor}
 use lib.Dec.{eqb}
 use lib.ListN.{length, getD, take, length-append}
+use Rattle.answer.proofs.DoneLaws.{when-done}
 use Rattle.octets.specs.Block.{numberAt, blockBytes, padded}
 use Rattle.aes.proofs.CipherLaws.{length-enciphered}
 use Rattle.ghash.specs.Element.{valueOf}
@@ -16,12 +17,11 @@ use Rattle.ghash.specs.Hash.{hashFrom, hash, lengthBlock}
 use Rattle.ghash.proofs.HashLaws.{hash-append}
 use Rattle.ghash.proofs.ElementLaws.{value-element}
 use Rattle.ledger.specs.Ledger.{verdictOf}
-use Rattle.gcm.specs.Mode.{firstBlock, crypted, tagBy}
-use Rattle.gcm.specs.Promise.{ifDone}
-use Rattle.gcm.specs.Rows.{longestText, adBad, textBad}
-use Rattle.gcm.proofs.ModeLaws.{crypted-nil, length-crypted}
+use Rattle.mode.specs.Mode.{firstBlock, crypted, tagBy}
+use Rattle.rows.specs.Rows.{longestText, adBad, textBad}
+use Rattle.mode.proofs.ModeLaws.{crypted-nil, length-crypted}
 use Rattle.channel.specs.declared.Channel.{Channel}
-use Rattle.channel.specs.Message.{ivOf, counterAt, cryptedAt, waiting, sumAfter, partAfter}
+use Rattle.pieces.specs.Piece.{ivOf, counterAt, cryptedAt, waiting, sumAfter, partAfter}
 use Rattle.channel.specs.State.{
   withMessage,
   busy,
@@ -34,13 +34,14 @@ use Rattle.channel.specs.State.{
   beginOf,
   feedNumber,
   pieceOf,
+  messageAfter,
   messageWith,
+  wholeSum,
   feedOf,
-  messageSum,
   messageTag,
 }
-use Rattle.channel.proofs.PieceLaws.{first-counter, crypted-append, length-cryptedAt}
-use Rattle.channel.proofs.HeldLaws.{sum-more, part-more, part-rest-zero, sum-end, sum-none, part-none}
+use Rattle.pieces.proofs.PieceLaws.{first-counter, crypted-append, length-cryptedAt}
+use Rattle.pieces.proofs.HeldLaws.{sum-more, part-more, part-rest-zero, sum-end, sum-none, part-none}
 
 -- ---- calls that are not refused
 
@@ -76,12 +77,12 @@ feed-done c piece room e =
 -- The channels that they hand back.
 pub begun : (c : Channel) (n : ℕ) (ad : List ℕ) → beginNumber c n (length ad) ≡ 0 → beginOf c n ad ≡ begunWith c n ad
 unfolding beginOf
-begun c n ad e = ap (λ (k : ℕ). ifDone k (begunWith c n ad) c) e
+begun c n ad e = when-done _ _ e
 
 pub fed : (c : Channel) (piece : List ℕ) (room : ℕ) → feedNumber c (length piece) room ≡ 0
     → feedOf c piece room ≡ withMessage c (messageWith c (pieceOf c piece))
 unfolding feedOf
-fed c piece room e = ap (λ (k : ℕ). ifDone k (withMessage c (messageWith c (pieceOf c piece))) c) e
+fed c piece room e = when-done _ _ e
 
 -- ---- the message in progress
 
@@ -143,7 +144,7 @@ piece-behind c n ad x piece m =
 -- After an accepted feed the text so far has the piece behind it.
 pub fed-more : (c : Channel) (n : ℕ) (ad x piece : List ℕ) → Holds c n ad x
     → Holds (withMessage c (messageWith c (pieceOf c piece))) n ad (x ++ piece)
-unfolding messageWith
+unfolding messageAfter
 fed-more c n ad x piece m =
     let h = keyOf c in
     let summed = hash (keyOf c) (padded ad) in
@@ -184,7 +185,7 @@ unused-zero c n ad x m i past-it =
 -- Finish gives the tag that the seal at once has for the text so far.
 pub finish-tag : (c : Channel) (n : ℕ) (ad x : List ℕ) → Holds c n ad x
     → messageTag c ≡ tagBy (keyOf c) (cipherOf c) (firstBlock (keyOf c) (ivOf (c .mark) n)) ad (ciphertextIn c n x)
-unfolding messageTag messageSum tagBy
+unfolding messageTag wholeSum tagBy
 finish-tag c n ad x m =
     let h = keyOf c in
     let e = cipherOf c in

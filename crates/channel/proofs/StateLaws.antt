@@ -1,23 +1,15 @@
--- What a test of an answer tells of its number, and what a number 0 tells of the lengths behind it.
+-- What an answer of number 0 tells of the lengths behind it.
 use mathlib.Core.Path.{_≡_, refl, _∙_, ap, sym, subst}
 use mathlib.Core.Bool.{Bool, true, false, not, cond}
 use Prim.Native.Nat.{ℕ, _+_, _≤_}
 use native.Mathlib.Omega.{arith}
-use borrow.Author.Tests.{not-true, not-false, eqb-true, ltb-false}
+use borrow.Author.Tests.{eqb-true, ltb-false}
 use lib.Dec.{eqb}
-use Rattle.gcm.specs.Rows.{keyBad, tagBad, adBad, textBad, tooShort}
-use Rattle.gcm.proofs.LengthLaws.{key-fits, within}
+use Rattle.rows.specs.Rows.{keyBad, tagBad, adBad, textBad, tooShort}
+use Rattle.rows.proofs.LengthLaws.{key-fits, within}
 use Rattle.channel.specs.declared.Channel.{Channel}
 use Rattle.channel.specs.State.{roundsIn, idle, openingNumber, beginNumber, feedNumber}
-use Rattle.channel.proofs.MessageLaws.{begin-done, feed-done}
-
--- the answer's number was not 0
-pub stopped : (n : ℕ) {a : ℕ} {done : Bool} → a ≡ n → done ≡ eqb a 0 → not done ≡ true → eqb n 0 ≡ false
-stopped n answer is-done refusing = ap (λ m. eqb m 0) (sym answer) ∙ sym is-done ∙ not-true _ refusing
-
--- the answer's number was 0
-pub passed : (n : ℕ) {a : ℕ} {done : Bool} → a ≡ n → done ≡ eqb a 0 → not done ≡ false → eqb n 0 ≡ true
-passed n answer is-done passing = ap (λ m. eqb m 0) (sym answer) ∙ sym is-done ∙ not-false _ passing
+use Rattle.channel.proofs.MessageLaws.{past, begin-done}
 
 pub rounds-few : (c : Channel) {r : ℕ} → r ≡ roundsIn c → r ≤ 14
 rounds-few c is = subst (λ r. r ≤ 14) (sym is) (go (eqb (c .rounds) 14))
@@ -28,11 +20,6 @@ rounds-few c is = subst (λ r. r ≤ 14) (sym is) (go (eqb (c .rounds) 14))
 
 pub begin-fits : (c : Channel) (n ad : ℕ) → eqb (beginNumber c n ad) 0 ≡ true → ad ≤ 65536
 begin-fits c n ad clear = ltb-false 65536 ad (begin-done c n ad (eqb-true _ 0 clear) .2)
-
--- a false test whose other branch is a number that is not 0
-past : (m : ℕ) (b : Bool) (x : ℕ) → cond b (m + 1) x ≡ 0 → (b ≡ false) × (x ≡ 0)
-past m true x none = absurd (omega arith)
-past m false x none = (refl, none)
 
 pub feed-fits : (c : Channel) (piece room : ℕ) → eqb (feedNumber c piece room) 0 ≡ true
     → (c .message .text + piece ≤ 65536) × (piece ≤ room)

@@ -1,4 +1,2 @@
-pub mod Message
 pub mod Promise
-pub mod Run
 pub mod State

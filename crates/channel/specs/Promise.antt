@@ -4,15 +4,11 @@ use mathlib.Core.Path.{_≡_}
 use mathlib.Core.List.{List}
 use Prim.Native.Nat.{ℕ}
 use lib.ListN.{length}
-use Rattle.answer.specs.Number.{numberOf}
-use Rattle.ghash.specs.Element.{elementOf}
-use Rattle.gcm.specs.Promise.{ifDone}
+use Rattle.answer.specs.Number.{numberOf, ifDone}
 use Rattle.channel.specs.declared.Channel.{Channel}
 use Rattle.channel.specs.declared.Step.{Step}
 use Rattle.channel.specs.declared.Fed.{Fed}
 use Rattle.channel.specs.declared.Finished.{Finished}
-use Rattle.channel.specs.declared.piece.Held.{Held}
-use Rattle.channel.specs.Message.{sumAfter, partAfter}
 use Rattle.channel.specs.State.{
   openingNumber,
   openingOf,
@@ -48,8 +44,3 @@ pub record FinishPromise (c : Channel) (r : Finished) : Type 0 where
 pub record AbandonPromise (c : Channel) (r : Step) : Type 0 where
   pub answer : numberOf (r .answer) ≡ endNumber c
   pub channel : r .channel ≡ endOf c
-
--- a hash after all the bytes s that waited: whole blocks in it, the rest held
-pub record Absorbed (h before : ℕ) (s : List ℕ) (r : Held) : Type 0 where
-  pub sum : r .sum ≡ elementOf (sumAfter h before s)
-  pub part : r .part ≡ partAfter s

@@ -7,19 +7,18 @@ use Prim.Native.Nat.{ℕ, _+_, _%_}
 use lib.Bits.{bitXor}
 use lib.Dec.{eqb}
 use lib.ListN.{length, take, drop, replicate}
-use Rattle.answer.specs.Number.{numberOf}
+use Rattle.answer.specs.Number.{numberOf, ifDone}
 use Rattle.octets.specs.Block.{numberAt, blockBytes, padded}
 use Rattle.aes.specs.Schedule.{keyWordsIn, roundsFor, roundKeys}
 use Rattle.aes.specs.Cipher.{encipheredBy, enciphered}
 use Rattle.ghash.specs.Element.{valueOf, elementOf}
 use Rattle.ghash.specs.Hash.{hashFrom, hash, lengthBlock}
 use Rattle.ledger.specs.Ledger.{freshLedger, verdictOf, acceptedBy}
-use Rattle.gcm.specs.Mode.{hashKey}
-use Rattle.gcm.specs.Promise.{ifDone}
-use Rattle.gcm.specs.Rows.{keyBad, tagBad, adBad, textBad, tooShort}
+use Rattle.mode.specs.Mode.{hashKey}
+use Rattle.rows.specs.Rows.{keyBad, tagBad, adBad, textBad, tooShort}
 use Rattle.channel.specs.declared.Channel.{Channel}
 use Rattle.channel.specs.declared.Message.{Message}
-use Rattle.channel.specs.Message.{ivOf, counterAt, cryptedAt, sixteen, waiting, sumAfter, partAfter}
+use Rattle.pieces.specs.Piece.{ivOf, counterAt, cryptedAt, sixteen, waiting, sumAfter, partAfter}
 
 -- no message in progress: every field zero
 abbrev pub noMessage : Message
@@ -131,17 +130,9 @@ messageAfter h m d =
       text = m .text + length d;
     }
 
--- the message with ciphertext d taken in
-unfoldable pub messageWith : Channel → List ℕ → Message
-messageWith c d =
-    record {
-      number = c .message .number;
-      sum = elementOf (sumAfter (keyOf c) (valueOf (c .message .sum)) (waiting (c .message .text) (c .message .part) d));
-      part = partAfter (waiting (c .message .text) (c .message .part) d);
-      phase = c .message .phase;
-      ad = c .message .ad;
-      text = c .message .text + length d;
-    }
+-- the channel's message with ciphertext d taken in
+abbrev pub messageWith : Channel → List ℕ → Message
+messageWith c d = messageAfter (keyOf c) (c .message) d
 
 unfoldable pub feedOf : Channel → List ℕ → ℕ → Channel
 feedOf c piece room = ifDone (feedNumber c (length piece) room) (withMessage c (messageWith c (pieceOf c piece))) c
@@ -161,14 +152,8 @@ unfoldable pub wholeSum : ℕ → Message → ℕ
 wholeSum h m =
     hashFrom h (valueOf (m .sum)) (padded (take (m .text % 16) (m .part)) ++ (lengthBlock (m .ad) (m .text) ∷ []))
 
--- the hash of the whole message
-unfoldable pub messageSum : Channel → ℕ
-messageSum c =
-    hashFrom (keyOf c) (valueOf (c .message .sum))
-    (padded (take (c .message .text % 16) (c .message .part)) ++ (lengthBlock (c .message .ad) (c .message .text) ∷ []))
-
 unfoldable pub messageTag : Channel → List ℕ
-messageTag c = blockBytes (bitXor (messageSum c) (numberAt (cipherOf c (counterAt (ivIn c) 0)) 0))
+messageTag c = blockBytes (bitXor (wholeSum (keyOf c) (c .message)) (numberAt (cipherOf c (counterAt (ivIn c) 0)) 0))
 
 unfoldable pub tagOut : Channel → List ℕ
 tagOut c = ifDone (endNumber c) (sixteen (take (c .tag) (messageTag c))) (replicate 16 0)

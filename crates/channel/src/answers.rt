@@ -1,12 +1,12 @@
 // What each call of a channel answers. The phase is looked at first.
 use super::Channel;
 use answer::Answer;
-use gcm::rows::ad_bad;
-use gcm::rows::key_bad;
-use gcm::rows::tag_bad;
-use gcm::rows::text_bad;
-use gcm::rows::too_short;
 use ledger::verdict;
+use rows::ad_bad;
+use rows::key_bad;
+use rows::tag_bad;
+use rows::text_bad;
+use rows::too_short;
 ghost use mathlib.Core.Path.{_≡_};
 ghost use Prim.Native.Nat.{_<_, _^_};
 ghost use Rattle.answer.specs.Number.{numberOf};

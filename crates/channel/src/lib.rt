@@ -2,8 +2,6 @@
 //
 // A channel goes in by value and comes back. Whatever its fields hold, a call answers; every length may be handed in.
 mod answers;
-mod block;
-mod piece;
 
 use aes::encipher_by;
 use aes::expand;
@@ -13,8 +11,6 @@ use answers::begin_answer;
 use answers::feed_answer;
 use answers::is_idle;
 use answers::opening_answer;
-use block::sixteen_of;
-use gcm::tag::hash_key;
 use ghash::Element;
 use ghash::absorb;
 use ghash::block_of;
@@ -25,15 +21,17 @@ use ghash::plus;
 use ledger::Ledger;
 use ledger::accept;
 use ledger::fresh;
-use piece::absorb_bytes;
-use piece::counter_at;
-use piece::crypt_at;
+use mode::tag::hash_key;
+use pieces::absorb_bytes;
+use pieces::block::sixteen_of;
+use pieces::counter_at;
+use pieces::crypt_at;
 ghost use mathlib.Core.Path.{_≡_};
 ghost use mathlib.Core.List.{_++_};
 ghost use Prim.Native.Nat.{_+_, _≤_};
 ghost use lib.ListN.{length, take, drop};
 ghost use Rattle.ghash.specs.Element.{valueOf};
-ghost use Rattle.channel.specs.Message.{sixteen};
+ghost use Rattle.pieces.specs.Piece.{sixteen};
 ghost use Rattle.channel.specs.State.{noMessage, deadChannel, newChannel, begunWith, pieceOf, messageWith};
 ghost use Rattle.channel.specs.State.{withMessage, messageAfter, roundsIn, wholeSum, messageTag};
 ghost use Rattle.channel.specs.Promise.{OpeningPromise, BeginPromise, FeedPromise, FinishPromise, AbandonPromise};

@@ -1,10 +1,3 @@
-pub mod CryptLaws
-pub mod InputsLaws
-pub mod LengthLaws
-pub mod ModeLaws
-pub mod OpenLaws
 pub mod PromiseLaws
-pub mod RowsLaws
 pub mod SealLaws
-pub mod TagLaws
 pub mod Theorems

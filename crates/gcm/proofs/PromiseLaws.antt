@@ -2,26 +2,19 @@
 use mathlib.Core.Path.{_≡_, refl, _∙_, ap, sym, subst}
 use mathlib.Core.Bool.{Bool, true, false, not, cond}
 use mathlib.Core.List.{List, [], _∷_, _++_}
-use Prim.Native.Nat.{ℕ, zero, suc, _+_, _-_}
+use Prim.Native.Nat.{ℕ, _+_, _-_}
 use borrow.Author.Tests.{not-true, not-false, eqb-true}
-use lib.Dec.{eqb, eqb·suc-zero}
+use lib.Dec.{eqb}
 use lib.ListN.{length, drop}
 use Rattle.answer.specs.declared.Answer.{Answer}
 use Rattle.answer.specs.declared.Answer.the-variants.{TagDiffers}
-use Rattle.answer.specs.Number.{numberOf}
+use Rattle.answer.specs.Number.{numberOf, ifDone}
 use Rattle.aes.specs.Cipher.{enciphered}
-use Rattle.gcm.specs.Mode.{sealed, genuine, opened}
-use Rattle.gcm.specs.Rows.{lowest, sealRows, openLengthRows}
-use Rattle.gcm.specs.Promise.{ifDone, sealNumber, openNumber, SealPromise, OpenPromise, OpenedBy}
-use Rattle.gcm.proofs.LengthLaws.{never, refused, went-on, second-answers}
-
-pub if-refused : {A : Type 0} (n : ℕ) (a b : A) → eqb n 0 ≡ false → b ≡ ifDone n a b
-if-refused zero a b refusal = never refusal
-if-refused (suc n) a b refusal = refl
-
-pub if-done : {A : Type 0} (n : ℕ) (a b : A) → eqb n 0 ≡ true → a ≡ ifDone n a b
-if-done zero a b done = refl
-if-done (suc n) a b done = never (sym done ∙ eqb·suc-zero n)
+use Rattle.mode.specs.Mode.{sealed, genuine, opened}
+use Rattle.rows.specs.Rows.{lowest, sealRows, openLengthRows}
+use Rattle.gcm.specs.Promise.{sealNumber, openNumber, SealPromise, OpenPromise, OpenedBy}
+use Rattle.answer.proofs.DoneLaws.{was-refused, was-done, if-refused, if-done}
+use Rattle.rows.proofs.LengthLaws.{refused, second-answers}
 
 module _ (key iv ad text : List ℕ) (t : ℕ) (out : List ℕ) where
   sealed-out : List ℕ
@@ -32,9 +25,9 @@ module _ (key iv ad text : List ℕ) (t : ℕ) (out : List ℕ) where
       → not done ≡ true
       → SealPromise key iv ad text t out (record { answer = a; count = 0 }) out
   unfolding sealNumber sealed-out
-  seal-refused {a} {done} answer is-done refusing =
+  seal-refused answer is-done refusing =
       let n = sealNumber key iv ad text t out in
-      let refusal : eqb n 0 ≡ false = ap (λ m. eqb m 0) (sym answer) ∙ sym is-done ∙ not-true done refusing in
+      let refusal = was-refused n answer is-done refusing in
       record { answer = answer; count = if-refused n (length text + t) 0 refusal; bytes = if-refused n sealed-out out refusal }
 
   pub seal-done : {a : Answer} {done : Bool} {left : List ℕ} → numberOf a ≡ lowest 1 (sealRows (length key) (length iv) (length ad) (length text) t (length out))
@@ -43,9 +36,9 @@ module _ (key iv ad text : List ℕ) (t : ℕ) (out : List ℕ) where
       → left ≡ sealed (enciphered key) iv ad t text ++ drop (length text + t) out
       → SealPromise key iv ad text t out (record { answer = a; count = length text + t }) left
   unfolding sealNumber sealed-out
-  seal-done {a} {done} answer is-done passing wrote =
+  seal-done answer is-done passing wrote =
       let n = sealNumber key iv ad text t out in
-      let clear : eqb n 0 ≡ true = ap (λ m. eqb m 0) (sym answer) ∙ sym is-done ∙ not-false done passing in
+      let clear = was-done n answer is-done passing in
       record { answer = answer; count = if-done n (length text + t) 0 clear; bytes = wrote ∙ if-done n sealed-out out clear }
 
 module _ (key iv ad s : List ℕ) (t : ℕ) (out : List ℕ) where
@@ -71,15 +64,15 @@ module _ (key iv ad s : List ℕ) (t : ℕ) (out : List ℕ) where
       → not done ≡ true
       → OpenPromise key iv ad s t out (record { answer = a; count = 0 }) out
   unfolding openNumber rows differs
-  open-refused {a} {done} answer is-done refusing =
+  open-refused {a} answer is-done refusing =
       let number : numberOf a ≡ openNumber key iv ad s t out = refused rows (differs ∷ []) answer is-done refusing in
-      refuses number (ap (λ m. eqb m 0) (sym number) ∙ sym is-done ∙ not-true done refusing)
+      refuses number (was-refused (openNumber key iv ad s t out) number is-done refusing)
 
   -- the rows about lengths let pass: the tag decides
   by-tag : {a : ℕ} {done : Bool} → a ≡ lowest 1 rows → done ≡ eqb a 0 → not done ≡ false
       → openNumber key iv ad s t out ≡ lowest 8 (differs ∷ [])
   unfolding openNumber rows differs
-  by-tag answer is-done passing = second-answers 0 rows (differs ∷ []) (went-on rows answer is-done passing)
+  by-tag answer is-done passing = second-answers 0 rows (differs ∷ []) (was-done (lowest 1 rows) answer is-done passing)
 
   pub open-differs : {a : ℕ} {done r : Bool} {left : List ℕ} → a ≡ lowest 1 (openLengthRows (length key) (length iv) (length ad) (length s) t (length out))
       → done ≡ eqb a 0

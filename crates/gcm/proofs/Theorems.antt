@@ -11,19 +11,19 @@ use lib.Dec.{eqb, ltb}
 use lib.ListN.{length, getD, take, drop}
 use lib.Seq.{take-at}
 use Rattle.answer.specs.declared.Outcome.{Outcome}
-use Rattle.answer.specs.Number.{numberOf}
+use Rattle.answer.specs.Number.{numberOf, ifDone}
 use Rattle.answer.proofs.NumberLaws.{number-injective}
 use Rattle.octets.specs.Block.{blocksFor}
 use Rattle.aes.specs.Cipher.{enciphered}
 use Rattle.aes.proofs.CipherLaws.{enciphered-sixteen}
-use Rattle.gcm.specs.Mode.{hashKey, firstBlock, inputs, sealed, genuine, opened}
-use Rattle.gcm.specs.Rows.{lowest, Applies, lengthRows, sealRows, openLengthRows, openRows}
-use Rattle.gcm.specs.Promise.{ifDone, sealNumber, openNumber, SealPromise, OpenPromise}
-use Rattle.gcm.proofs.InputsLaws.{inputs-differ}
-use Rattle.gcm.proofs.LengthLaws.{second-answers, parts-pass, seal-allows, open-allows}
-use Rattle.gcm.proofs.ModeLaws.{length-sealed}
-use Rattle.gcm.proofs.OpenLaws.{opens-sealed, sealed-genuine, genuine-sealed, refused-exactly, only-text}
-use Rattle.gcm.proofs.RowsLaws.{lowest-exactly, lowest-none}
+use Rattle.mode.specs.Mode.{hashKey, firstBlock, inputs, sealed, genuine, opened}
+use Rattle.rows.specs.Rows.{lowest, Applies, lengthRows, sealRows, openLengthRows, openRows}
+use Rattle.gcm.specs.Promise.{sealNumber, openNumber, SealPromise, OpenPromise}
+use Rattle.mode.proofs.InputsLaws.{inputs-differ}
+use Rattle.rows.proofs.LengthLaws.{second-answers, parts-pass, seal-allows, open-allows}
+use Rattle.mode.proofs.ModeLaws.{length-sealed}
+use Rattle.mode.proofs.OpenLaws.{opens-sealed, sealed-genuine, genuine-sealed, refused-exactly, only-text}
+use Rattle.rows.proofs.RowsLaws.{lowest-exactly, lowest-none}
 
 -- The cipher input blocks of a message, j and j stepped once for each block of its text, all differ, whatever the IV's length.
 pub blocks-differ : (key iv text : List ℕ) → length text ≤ 65536

@@ -1,4 +1,1 @@
-pub mod Mode
-pub mod Passed
 pub mod Promise
-pub mod Rows

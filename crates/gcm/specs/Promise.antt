@@ -2,18 +2,13 @@
 use mathlib.Core.Path.{_≡_}
 use mathlib.Core.Bool.{Bool, not, cond}
 use mathlib.Core.List.{List, _++_}
-use Prim.Native.Nat.{ℕ, zero, suc, _+_, _-_}
+use Prim.Native.Nat.{ℕ, _+_, _-_}
 use lib.ListN.{length, drop}
 use Rattle.answer.specs.declared.Outcome.{Outcome}
-use Rattle.answer.specs.Number.{numberOf}
+use Rattle.answer.specs.Number.{numberOf, ifDone}
 use Rattle.aes.specs.Cipher.{enciphered}
-use Rattle.gcm.specs.Mode.{sealed, genuine, opened}
-use Rattle.gcm.specs.Rows.{lowest, sealRows, openRows}
-
--- the first where the answer's number is 0, the second where it is a refusal's
-abbrev pub ifDone {ℓ} : {A : Type ℓ} → ℕ → A → A → A
-ifDone zero a b = a
-ifDone (suc n) a b = b
+use Rattle.mode.specs.Mode.{sealed, genuine, opened}
+use Rattle.rows.specs.Rows.{lowest, sealRows, openRows}
 
 -- the output with the sealed form of the text in its front, and what stood behind that
 abbrev pub sealedInto : (List ℕ → List ℕ) → List ℕ → List ℕ → ℕ → List ℕ → List ℕ → List ℕ

@@ -1,26 +1,22 @@
 // AES-GCM at once: SP 800-38D's mode over FIPS 197's cipher. Any lengths may be handed in; document 01's rows refuse bad ones.
-pub mod counter;
-pub mod rows;
-pub mod tag;
-
 use aes::expand;
 use answer::Answer;
 use answer::Outcome;
 use answer::is_done;
-use counter::crypt;
+use mode::counter::crypt;
+use mode::tag::first_block;
+use mode::tag::hash_key;
+use mode::tag::put_tag;
+use mode::tag::same_tag;
+use mode::tag::tag;
 use rows::open_answer;
 use rows::seal_answer;
-use tag::first_block;
-use tag::hash_key;
-use tag::put_tag;
-use tag::same_tag;
-use tag::tag;
 ghost use mathlib.Core.Path.{_≡_};
 ghost use Prim.Native.Nat.{_+_, _-_, _≤_};
 ghost use lib.ListN.{length};
 ghost use Rattle.sbox.specs.Substitution.{Substitutes};
 ghost use Rattle.aes.specs.Cipher.{encipheredBy, enciphered};
-ghost use Rattle.gcm.specs.Passed.{Fitting, Passed};
+ghost use Rattle.rows.specs.Passed.{Fitting, Passed};
 ghost use Rattle.gcm.specs.Promise.{SealPromise, OpenPromise, OpenedBy, sealedInto};
 
 // Seals: the ciphertext and `tag_len` bytes of tag are written to the front of `out`. A refusal leaves `out` as it is, and its

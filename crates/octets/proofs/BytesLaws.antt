@@ -2,7 +2,7 @@
 -- is an induction on its lists.
 use mathlib.Core.Path.{_≡_, refl, sym, ap, ap₂, _∙_, subst}
 use mathlib.Core.Bool.{Bool, true, false, _&&_, false≢true, and-true, and-assoc}
-use mathlib.Core.List.{List, [], _∷_, _++_}
+use mathlib.Core.List.{List, [], _∷_, _++_, append-nil}
 use Prim.Native.Nat.{ℕ, zero, suc, _+_, _<_, _≤_, min}
 use native.Mathlib.Nat.{zero-min, min-zero, suc-min-suc, min-eq-left, not-suc-le-zero, le-of-suc-le-suc}
 use native.Mathlib.Numerals.{add-one}
@@ -11,7 +11,7 @@ use borrow.Author.Tests.{eqb-true, eqb-false, eq-eqb, ne-eqb}
 use lib.Bits.{bitOr, bitXor, or-add-and, xor-add-and, and-le-l, and-le-r, xor-self}
 use lib.Dec.{eqb}
 use lib.ListN.{length, getD, take, drop, drop-of-length-le}
-use lib.Seq.{drop-cons}
+use lib.Seq.{take-all, drop-cons}
 use Rattle.octets.specs.Bytes.{xored, same}
 use Rattle.octets.proofs.XorLaws.{xor-cancel}
 
@@ -30,6 +30,26 @@ unfolding xored
 xored-append s [] b = refl
 xored-append [] (x ∷ a) b = refl
 xored-append (y ∷ s) (x ∷ a) b = ap {B = List ℕ} (λ r. bitXor y x ∷ r) (xored-append s a b)
+
+xored-none : (s : List ℕ) → xored s [] ≡ []
+unfolding xored
+xored-none [] = refl
+xored-none (a ∷ s) = refl
+
+-- the xor of two lists, one after the other, with k: the second meets what stands in k behind the first
+pub xored-over : (s t k : List ℕ) → xored (s ++ t) k ≡ xored s k ++ xored t (drop (length s) k)
+unfolding xored
+xored-over [] t k = refl
+xored-over (a ∷ s) t [] = sym (xored-none t)
+xored-over (a ∷ s) t (b ∷ k) = ap {B = List ℕ} (λ r. bitXor a b ∷ r) (xored-over s t k)
+
+-- a list meets nothing of what stands in the other past its own end
+pub xored-front : (s a b : List ℕ) → length s ≤ length a → xored s (a ++ b) ≡ xored s a
+unfolding xored
+xored-front s a b h =
+    xored-append s a b
+    ∙ ap₂ (λ (x y : List ℕ). xored x a ++ xored y b) (take-all (length a) s h) (drop-of-length-le s h)
+    ∙ append-nil (xored s a)
 
 pub xored-twice : (s k : List ℕ) → length s ≤ length k → xored (xored s k) k ≡ s
 unfolding xored

@@ -1,6 +1,5 @@
 -- `channel::abandon` keeps its promise, refused or done.
 use mathlib.Core.Path.{_∙_, ap, sym, refl}
-use Rattle.gcm.specs.Promise.{ifDone}
 use Rattle.channel.specs.State.{withMessage, noMessage, endNumber, endOf}
 use borrow.Author.Needs.{needs}
 use Rattle.channel.proofs.abandon.Statement.{statement}

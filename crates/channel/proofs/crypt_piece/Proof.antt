@@ -4,7 +4,7 @@ use mathlib.Core.List.{_++_}
 use native.Mathlib.Omega.{arith}
 use lib.ListN.{length, drop}
 use Rattle.aes.specs.Cipher.{encipheredBy}
-use Rattle.channel.specs.Message.{cryptedAt}
+use Rattle.pieces.specs.Piece.{cryptedAt}
 use Rattle.channel.specs.State.{ivIn, pieceOf}
 use Rattle.channel.proofs.StateLaws.{rounds-few}
 use borrow.Author.Needs.{needs}

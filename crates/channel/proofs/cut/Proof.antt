@@ -4,8 +4,8 @@ use mathlib.Core.List.{append-nil}
 use native.Mathlib.Omega.{arith}
 use lib.ListN.{length, take}
 use lib.Seq.{length-take-le, take-all}
-use Rattle.channel.specs.Message.{sixteen}
-use Rattle.channel.proofs.SixteenLaws.{sixteen-whole}
+use Rattle.pieces.specs.Piece.{sixteen}
+use Rattle.pieces.proofs.SixteenLaws.{sixteen-whole}
 use borrow.Author.Needs.{needs}
 use Rattle.channel.proofs.cut.Statement.{statement}
 use Rattle.channel.proofs.cut.Tie as tie

@@ -4,10 +4,10 @@ use mathlib.Core.List.{_++_}
 use native.Mathlib.Omega.{arith}
 use lib.ListN.{length, take, drop, length-take}
 use lib.Seq.{take-at}
-use Rattle.gcm.proofs.PromiseLaws.{if-refused, if-done}
+use Rattle.answer.proofs.DoneLaws.{was-refused, was-done, if-refused, if-done}
 use Rattle.channel.specs.State.{withMessage, messageWith, pieceOf, feedNumber, feedOf, feedOut}
 use Rattle.channel.proofs.MessageLaws.{piece-size}
-use Rattle.channel.proofs.StateLaws.{stopped, passed, feed-fits}
+use Rattle.channel.proofs.StateLaws.{feed-fits}
 use borrow.Author.Needs.{needs}
 use Rattle.channel.proofs.feed.Statement.{statement}
 use Rattle.channel.proofs.feed.Tie as tie
@@ -24,7 +24,7 @@ returns c =
     let given = c .before .before .before .before .before .args in
     let n = feedNumber (given .c) (length (given .piece .now)) (length (given .out .now)) in
     let asked = c .before .before .feed-answer .ensures in
-    let refusal = stopped n asked (c .before .is-done .ensures) (c .if1 .taken) in
+    let refusal = was-refused n asked (c .before .is-done .ensures) (c .if1 .taken) in
     record {
       answer = asked;
       channel = if-refused n _ (given .c) refusal;
@@ -35,7 +35,7 @@ returns c =
 crypt-piece-requires : tie.Need-crypt-piece-requires
 crypt-piece-requires c κs =
     let given = c .before .before .before .before .before .before .args in
-    let clear = passed _ (c .before .before .before .feed-answer .ensures) (c .before .before .is-done .ensures) (c .before .if1 .left) in
+    let clear = was-done _ (c .before .before .before .feed-answer .ensures) (c .before .before .is-done .ensures) (c .before .if1 .left) in
     feed-fits (given .c) (length (given .piece .now)) (length (given .out .now)) clear .1
 
 slice-reshare-prefix-with-bytes : tie.Need-slice-reshare-prefix-with-bytes
@@ -43,7 +43,7 @@ slice-reshare-prefix-with-bytes c =
     let wrote = c .before .before in
     let given = wrote .before .before .before .before .before .before .before .args in
     let on = wrote .before .before in
-    let clear = passed _ (on .before .before .feed-answer .ensures) (on .before .is-done .ensures) (on .if1 .left) in
+    let clear = was-done _ (on .before .before .feed-answer .ensures) (on .before .is-done .ensures) (on .if1 .left) in
     let fit = feed-fits (given .c) (length (given .piece .now)) (length (given .out .now)) clear in
     omega (arith, wrote .crypt-piece .kept .0, fit .1)
 
@@ -52,7 +52,7 @@ slice-aggregate-with-bytes c =
     let wrote = c .before .before .before in
     let given = wrote .before .before .before .before .before .before .before .args in
     let on = wrote .before .before in
-    let clear = passed _ (on .before .before .feed-answer .ensures) (on .before .is-done .ensures) (on .if1 .left) in
+    let clear = was-done _ (on .before .before .feed-answer .ensures) (on .before .is-done .ensures) (on .if1 .left) in
     let fit = feed-fits (given .c) (length (given .piece .now)) (length (given .out .now)) clear in
     simp length-take (omega (arith, wrote .crypt-piece .kept .0, fit .1))
 
@@ -61,7 +61,7 @@ with-bytes-requires c κs =
     let wrote = c .before .before .before in
     let given = wrote .before .before .before .before .before .before .before .args in
     let on = wrote .before .before in
-    let clear = passed _ (on .before .before .feed-answer .ensures) (on .before .is-done .ensures) (on .if1 .left) in
+    let clear = was-done _ (on .before .before .feed-answer .ensures) (on .before .is-done .ensures) (on .if1 .left) in
     let fit = feed-fits (given .c) (length (given .piece .now)) (length (given .out .now)) clear in
     simp length-take (omega (arith, fit .0))
 
@@ -77,11 +77,11 @@ returns-2 c =
     let piece = given .piece .now in
     let n = feedNumber (given .c) (length piece) (length (given .out .now)) in
     let asked = on .before .before .feed-answer .ensures in
-    let clear = passed n asked (on .before .is-done .ensures) (on .if1 .left) in
+    let clear = was-done n asked (on .before .is-done .ensures) (on .if1 .left) in
     let front = ap (take (length piece)) (wrote .crypt-piece .ensures) ∙ take-at (pieceOf (given .c) piece) _ (length piece) (piece-size (given .c) piece) in
     record {
       answer = asked;
-      channel = c .with-bytes .ensures ∙ ap (λ d. withMessage (given .c) (messageWith (given .c) d)) front ∙ if-done n _ (given .c) clear;
+      channel = c .with-bytes .ensures ∙ ap (λ d. withMessage (given .c) (messageWith (given .c) d)) front ∙ if-done n _ _ clear;
       count = if-done n (length piece) 0 clear;
       bytes = wrote .crypt-piece .ensures ∙ if-done n _ (given .out .now) clear;
     }

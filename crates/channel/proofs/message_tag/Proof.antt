@@ -4,8 +4,8 @@ use lib.Bits.{bitXor}
 use lib.ListN.{take}
 use Rattle.octets.specs.Block.{numberAt, blockBytes}
 use Rattle.aes.specs.Cipher.{encipheredBy}
-use Rattle.channel.specs.Message.{sixteen}
-use Rattle.channel.specs.State.{wholeSum, messageSum, messageTag, roundsIn}
+use Rattle.pieces.specs.Piece.{sixteen}
+use Rattle.channel.specs.State.{messageTag, roundsIn}
 use Rattle.channel.proofs.StateLaws.{rounds-few}
 use borrow.Author.Needs.{needs}
 use Rattle.channel.proofs.message_tag.Statement.{statement}
@@ -41,7 +41,7 @@ cut-requires : tie.Need-cut-requires
 cut-requires c κs = search needs
 
 returns : tie.Need-returns
-unfolding wholeSum messageSum messageTag
+unfolding messageTag
 returns c =
     let masked = c .before .before .before in
     let ready = masked .before .before .before in

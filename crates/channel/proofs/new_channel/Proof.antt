@@ -4,7 +4,7 @@ use Prim.Native.Nat.{_+_, _/_}
 use lib.ListN.{length}
 use Rattle.aes.specs.Cipher.{encipheredBy, enciphered}
 use Rattle.ghash.proofs.ElementLaws.{element-is}
-use Rattle.gcm.specs.Mode.{hashKey}
+use Rattle.mode.specs.Mode.{hashKey}
 use Rattle.channel.specs.State.{newChannel}
 use mathlib.Core.Path.{_∙_, ap, sym}
 use borrow.Author.Needs.{needs}

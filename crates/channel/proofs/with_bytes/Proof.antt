@@ -1,6 +1,6 @@
 -- `channel::with_bytes` meets its contract: the message alone is another.
 use mathlib.Core.Path.{ap}
-use Rattle.channel.specs.State.{withMessage, messageAfter, messageWith}
+use Rattle.channel.specs.State.{withMessage}
 use borrow.Author.Needs.{needs}
 use Rattle.channel.proofs.with_bytes.Statement.{statement}
 use Rattle.channel.proofs.with_bytes.Tie as tie
@@ -9,7 +9,6 @@ message-after-requires : tie.Need-message-after-requires
 message-after-requires c κs = search needs
 
 returns : tie.Need-returns
-unfolding messageAfter messageWith
 returns c = ap (withMessage (c .before .before .before .before .args .c)) (c .message-after .ensures)
 
 pub with-bytes-spec : {M : Type 1} → statement M

@@ -1,7 +1,8 @@
 -- `gcm::open` keeps its promise at each way out: refused by a row about lengths, refused for its tag, or opened.
 use lib.ListN.{length}
-use Rattle.gcm.specs.Rows.{openLengthRows}
-use Rattle.gcm.proofs.LengthLaws.{went-on, open-allows}
+use Rattle.answer.proofs.DoneLaws.{was-done}
+use Rattle.rows.specs.Rows.{openLengthRows}
+use Rattle.rows.proofs.LengthLaws.{open-allows}
 use Rattle.gcm.proofs.PromiseLaws.{open-refused, open-differs, open-done}
 use borrow.Author.Needs.{needs}
 use Rattle.gcm.proofs.open.Statement.{statement}
@@ -30,7 +31,7 @@ open-allowed-requires c κs =
     let sealed = length (given .sealed .now) in
     let room = length (given .out .now) in
     open-allows key iv ad sealed (given .tag-len) room
-    (went-on (openLengthRows key iv ad sealed (given .tag-len) room) (asked .open-answer .ensures) (c .before .before .is-done .ensures) (c .before .if1 .left))
+    (was-done _ (asked .open-answer .ensures) (c .before .before .is-done .ensures) (c .before .if1 .left))
 
 same-length : tie.Need-same-length
 same-length c = search needs
@@ -54,7 +55,7 @@ sub-t9 c =
     let ad = length (given .ad .now) in
     let sealed = length (given .sealed .now) in
     let room = length (given .out .now) in
-    let pass = went-on (openLengthRows key iv ad sealed (given .tag-len) room) (asked .open-answer .ensures) (on .before .is-done .ensures) (on .if1 .left) in
+    let pass = was-done _ (asked .open-answer .ensures) (on .before .is-done .ensures) (on .if1 .left) in
     open-allows key iv ad sealed (given .tag-len) room pass .1 .0
 
 same-length-2 : tie.Need-same-length-2

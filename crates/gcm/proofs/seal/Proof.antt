@@ -1,8 +1,9 @@
 -- `gcm::seal` keeps its promise at each way out: refused by a row, or sealed.
 use native.Mathlib.Omega.{arith}
 use lib.ListN.{length}
-use Rattle.gcm.specs.Rows.{sealRows}
-use Rattle.gcm.proofs.LengthLaws.{went-on, seal-allows}
+use Rattle.answer.proofs.DoneLaws.{was-done}
+use Rattle.rows.specs.Rows.{sealRows}
+use Rattle.rows.proofs.LengthLaws.{seal-allows}
 use Rattle.gcm.proofs.PromiseLaws.{seal-refused, seal-done}
 use borrow.Author.Needs.{needs}
 use Rattle.gcm.proofs.seal.Statement.{statement}
@@ -31,7 +32,7 @@ seal-allowed-requires c κs =
     let text = length (given .text .now) in
     let room = length (given .out .now) in
     seal-allows key iv ad text (given .tag-len) room
-    (went-on (sealRows key iv ad text (given .tag-len) room) (asked .seal-answer .ensures) (c .before .before .is-done .ensures) (c .before .if1 .left))
+    (was-done _ (asked .seal-answer .ensures) (c .before .before .is-done .ensures) (c .before .if1 .left))
 
 add-t9 : tie.Need-add-t9
 add-t9 c =
@@ -43,7 +44,7 @@ add-t9 c =
     let ad = length (given .ad .now) in
     let text = length (given .text .now) in
     let room = length (given .out .now) in
-    let pass = went-on (sealRows key iv ad text (given .tag-len) room) (asked .seal-answer .ensures) (on .before .is-done .ensures) (on .if1 .left) in
+    let pass = was-done _ (asked .seal-answer .ensures) (on .before .is-done .ensures) (on .if1 .left) in
     let fit = seal-allows key iv ad text (given .tag-len) room pass in
     omega (arith, fit .0 .rest .long-text, fit .0 .rest .long-tag)
 

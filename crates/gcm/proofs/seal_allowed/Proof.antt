@@ -5,7 +5,7 @@ use Prim.Native.Nat.{_+_, _/_}
 use native.Mathlib.Omega.{arith}
 use lib.ListN.{length, drop}
 use Rattle.aes.specs.Cipher.{encipheredBy, enciphered}
-use Rattle.gcm.specs.Mode.{sealed}
+use Rattle.mode.specs.Mode.{sealed}
 use borrow.Author.Needs.{needs}
 use Rattle.gcm.proofs.seal_allowed.Statement.{statement}
 use Rattle.gcm.proofs.seal_allowed.Tie as tie

@@ -1,0 +1,5 @@
+pub mod CryptLaws
+pub mod InputsLaws
+pub mod ModeLaws
+pub mod OpenLaws
+pub mod TagLaws

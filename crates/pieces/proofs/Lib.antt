@@ -1,0 +1,4 @@
+pub mod CryptAtLaws
+pub mod HeldLaws
+pub mod PieceLaws
+pub mod SixteenLaws
