@@ -26,6 +26,14 @@ mod proved {
             out: *mut u8,
             out_len: usize,
         ) -> u32;
+        fn bench_records(
+            key: &mut [u8; 4096],
+            iv: &mut [u8; 4096],
+            ad: &mut [u8; 4096],
+            text: &mut [u8; 4096],
+            input: *const u8,
+            input_len: usize,
+        ) -> usize;
     }
 
     /// Enciphers each block where it stands.
@@ -49,10 +57,27 @@ mod proved {
             )
         }
     }
+
+    /// Reads the records of the vector program; how many are whole.
+    pub fn records(input: &[u8]) -> usize {
+        let [mut key, mut iv, mut ad, mut text] = [[0; 4096]; 4];
+        // SAFETY: a slice goes over as its pointer and its length, and no buffer overlaps another.
+        unsafe {
+            bench_records(
+                &mut key,
+                &mut iv,
+                &mut ad,
+                &mut text,
+                input.as_ptr(),
+                input.len(),
+            )
+        }
+    }
 }
 
 mod plain {
     use reference::cipher::Key;
+    use reference::records::{read, Record};
 
     /// Enciphers each block where it stands.
     pub fn encipher(key: &[u8], blocks: &mut [u8]) {
@@ -61,6 +86,12 @@ mod plain {
             let enciphered = key.encipher((&*block).try_into().expect("sixteen bytes"));
             block.copy_from_slice(&enciphered);
         }
+    }
+
+    /// Reads the records of the vector program; how many are whole.
+    pub fn records(input: &[u8]) -> usize {
+        let whole = |record: &&Record| !matches!(record, Record::Cut);
+        read(input).iter().filter(whole).count()
     }
 }
 
@@ -162,6 +193,19 @@ fn open(bits: usize) {
     );
 }
 
+/// The vector program's stored input, read and not sealed: the output is the count of records.
+fn records() {
+    let path = concat!(env!("CARGO_MANIFEST_DIR"), "/../crates/vectors/stdin");
+    let input = std::fs::read(path).expect("the vector program's input");
+    line(
+        "records, not sealed",
+        input.len(),
+        vec![0; size_of::<usize>()],
+        |out| out.copy_from_slice(&proved::records(&input).to_be_bytes()),
+        |out| out.copy_from_slice(&plain::records(&input).to_be_bytes()),
+    );
+}
+
 fn main() {
     println!(
         "{:<48}{:>12}{:>12}{:>8}",
@@ -178,6 +222,7 @@ fn main() {
     open(256);
     let by_64 = feed(128, 64);
     feed(128, 1_024);
+    records();
     let label = "feed in pieces of 64 beside our own seal at once";
     let ratio = by_64 / at_once;
     println!("{label:<72}{ratio:>8.2}");

@@ -10,6 +10,7 @@ pub mod field8;
 pub mod hash;
 pub mod mode;
 pub mod nist;
+pub mod records;
 
 /// Sixteen bytes: what the cipher enciphers and the hash multiplies.
 pub type Block = [u8; 16];

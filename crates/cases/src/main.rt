@@ -1,12 +1,18 @@
 // Document 01's cases: each is run, and written as a line behind its name, bytes in hex.
+mod sealing;
 mod station;
 
+use answer::Answer;
+use answer::number;
 use libc::STDOUT_FILENO;
 ghost use Prim.Native.Nat.{_<_};
 
 fn main() {
     encipher_examples();
     seal_zeros();
+    sealing::refusals();
+    sealing::limits();
+    sealing::wrong_seals();
     station::numbers();
     station::in_pieces();
     station::refusals();
@@ -42,10 +48,19 @@ fn seal_zeros() {
     write_line(b"and opened again: ", &text);
 }
 
+fn say(words: &[u8]) {
+    io::write_all(STDOUT_FILENO, words);
+}
+
+fn say_answer(a: Answer) {
+    say(b" ");
+    io::print_decimal(STDOUT_FILENO, number(a) as u64);
+}
+
 fn write_line(name: &[u8], bytes: &[u8]) {
-    io::write_all(STDOUT_FILENO, name);
+    say(name);
     write_hex(bytes);
-    io::write_all(STDOUT_FILENO, b"\n");
+    say(b"\n");
 }
 
 fn write_hex(bytes: &[u8]) {

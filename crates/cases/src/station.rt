@@ -1,8 +1,8 @@
 // The channel's cases: a line has what each call answered, by document 01's numbers.
+use super::say;
+use super::say_answer;
 use super::write_hex;
 use super::write_line;
-use answer::Answer;
-use answer::number;
 use channel::Channel;
 use channel::Fed;
 use channel::Finished;
@@ -13,7 +13,6 @@ use channel::abandon;
 use channel::begin;
 use channel::feed;
 use channel::finish;
-use libc::STDOUT_FILENO;
 ghost use Prim.Native.Nat.{_≤_};
 ghost use lib.ListN.{length};
 
@@ -197,13 +196,4 @@ fn say_finished(f: Finished) -> Channel {
     let a = f.answer;
     say_answer(a);
     f.channel
-}
-
-fn say(words: &[u8]) {
-    io::write_all(STDOUT_FILENO, words);
-}
-
-fn say_answer(a: Answer) {
-    say(b" ");
-    io::print_decimal(STDOUT_FILENO, number(a) as u64);
 }

@@ -1,11 +1,11 @@
 -- What an answer of number 0 tells of the lengths behind it.
-use mathlib.Core.Path.{_≡_, refl, _∙_, ap, sym, subst}
-use mathlib.Core.Bool.{Bool, true, false, not, cond}
+use mathlib.Core.Path.{_≡_, sym, subst}
+use mathlib.Core.Bool.{Bool, true, false, cond}
 use Prim.Native.Nat.{ℕ, _+_, _≤_}
 use native.Mathlib.Omega.{arith}
 use borrow.Author.Tests.{eqb-true, ltb-false}
 use lib.Dec.{eqb}
-use Rattle.rows.specs.Rows.{keyBad, tagBad, adBad, textBad, tooShort}
+use Rattle.rows.specs.Rows.{keyBad, tagBad, textBad, tooShort}
 use Rattle.rows.proofs.LengthLaws.{key-fits, within}
 use Rattle.channel.specs.declared.Channel.{Channel}
 use Rattle.channel.specs.State.{roundsIn, idle, openingNumber, beginNumber, feedNumber}

@@ -1,13 +1,12 @@
 -- The sealing channel: what each call answers, and the channel, bytes and tag that it gives, for every value of the channel's
 -- fields.
-use mathlib.Core.Path.{_≡_}
 use mathlib.Core.Bool.{Bool, not, cond, _||_}
 use mathlib.Core.List.{List, [], _∷_, _++_}
 use Prim.Native.Nat.{ℕ, _+_, _%_}
 use lib.Bits.{bitXor}
 use lib.Dec.{eqb}
 use lib.ListN.{length, take, drop, replicate}
-use Rattle.answer.specs.Number.{numberOf, ifDone}
+use Rattle.answer.specs.Number.{ifDone}
 use Rattle.octets.specs.Block.{numberAt, blockBytes, padded}
 use Rattle.aes.specs.Schedule.{keyWordsIn, roundsFor, roundKeys}
 use Rattle.aes.specs.Cipher.{encipheredBy, enciphered}

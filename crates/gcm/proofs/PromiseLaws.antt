@@ -1,5 +1,5 @@
 -- What keeps the promises at each way out of a seal and of an open: refused for a length, refused for the tag, or done.
-use mathlib.Core.Path.{_≡_, refl, _∙_, ap, sym, subst}
+use mathlib.Core.Path.{_≡_, _∙_, ap, sym, subst}
 use mathlib.Core.Bool.{Bool, true, false, not, cond}
 use mathlib.Core.List.{List, [], _∷_, _++_}
 use Prim.Native.Nat.{ℕ, _+_, _-_}
@@ -8,7 +8,7 @@ use lib.Dec.{eqb}
 use lib.ListN.{length, drop}
 use Rattle.answer.specs.declared.Answer.{Answer}
 use Rattle.answer.specs.declared.Answer.the-variants.{TagDiffers}
-use Rattle.answer.specs.Number.{numberOf, ifDone}
+use Rattle.answer.specs.Number.{numberOf}
 use Rattle.aes.specs.Cipher.{enciphered}
 use Rattle.mode.specs.Mode.{sealed, genuine, opened}
 use Rattle.rows.specs.Rows.{lowest, sealRows, openLengthRows}

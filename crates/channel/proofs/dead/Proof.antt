@@ -1,6 +1,4 @@
 -- `channel::dead` meets its contract: every field is zero.
-use mathlib.Core.Path.{_≡_, ap₂}
-use Rattle.channel.specs.State.{deadChannel}
 use borrow.Author.Needs.{needs}
 use Rattle.channel.proofs.dead.Statement.{statement}
 use Rattle.channel.proofs.dead.Tie as tie

@@ -1,8 +1,7 @@
 -- `channel::feed` keeps its promise, refused or done.
-use mathlib.Core.Path.{_≡_, _∙_, ap, sym}
-use mathlib.Core.List.{_++_}
+use mathlib.Core.Path.{_∙_, ap}
 use native.Mathlib.Omega.{arith}
-use lib.ListN.{length, take, drop, length-take}
+use lib.ListN.{length, take, length-take}
 use lib.Seq.{take-at}
 use Rattle.answer.proofs.DoneLaws.{was-refused, was-done, if-refused, if-done}
 use Rattle.channel.specs.State.{withMessage, messageWith, pieceOf, feedNumber, feedOf, feedOut}

@@ -5,7 +5,7 @@ use lib.ListN.{take}
 use Rattle.octets.specs.Block.{numberAt, blockBytes}
 use Rattle.aes.specs.Cipher.{encipheredBy}
 use Rattle.pieces.specs.Piece.{sixteen}
-use Rattle.channel.specs.State.{messageTag, roundsIn}
+use Rattle.channel.specs.State.{messageTag}
 use Rattle.channel.proofs.StateLaws.{rounds-few}
 use borrow.Author.Needs.{needs}
 use Rattle.channel.proofs.message_tag.Statement.{statement}

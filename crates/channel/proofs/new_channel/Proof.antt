@@ -6,7 +6,7 @@ use Rattle.aes.specs.Cipher.{encipheredBy, enciphered}
 use Rattle.ghash.proofs.ElementLaws.{element-is}
 use Rattle.mode.specs.Mode.{hashKey}
 use Rattle.channel.specs.State.{newChannel}
-use mathlib.Core.Path.{_∙_, ap, sym}
+use mathlib.Core.Path.{_∙_, ap}
 use borrow.Author.Needs.{needs}
 use Rattle.channel.proofs.new_channel.Statement.{statement}
 use Rattle.channel.proofs.new_channel.Tie as tie

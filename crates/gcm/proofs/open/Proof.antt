@@ -1,7 +1,7 @@
 -- `gcm::open` keeps its promise at each way out: refused by a row about lengths, refused for its tag, or opened.
+use native.Mathlib.Omega.{arith}
 use lib.ListN.{length}
 use Rattle.answer.proofs.DoneLaws.{was-done}
-use Rattle.rows.specs.Rows.{openLengthRows}
 use Rattle.rows.proofs.LengthLaws.{open-allows}
 use Rattle.gcm.proofs.PromiseLaws.{open-refused, open-differs, open-done}
 use borrow.Author.Needs.{needs}
@@ -56,7 +56,7 @@ sub-t9 c =
     let sealed = length (given .sealed .now) in
     let room = length (given .out .now) in
     let pass = was-done _ (asked .open-answer .ensures) (on .before .is-done .ensures) (on .if1 .left) in
-    open-allows key iv ad sealed (given .tag-len) room pass .1 .0
+    omega (arith, open-allows key iv ad sealed (given .tag-len) room pass .1 .0)
 
 same-length-2 : tie.Need-same-length-2
 same-length-2 c = search needs

@@ -2,7 +2,6 @@
 use native.Mathlib.Omega.{arith}
 use lib.ListN.{length}
 use Rattle.answer.proofs.DoneLaws.{was-done}
-use Rattle.rows.specs.Rows.{sealRows}
 use Rattle.rows.proofs.LengthLaws.{seal-allows}
 use Rattle.gcm.proofs.PromiseLaws.{seal-refused, seal-done}
 use borrow.Author.Needs.{needs}

@@ -1,0 +1,9 @@
+pub mod AnswerLaws
+pub mod ChunkLaws
+pub mod HexLaws
+pub mod LineLaws
+pub mod ScanLaws
+pub mod ServeLaws
+pub mod SplitLaws
+pub mod TookLaws
+pub mod TurnLaws

@@ -1,0 +1,56 @@
+-- What is kept of a line of hex while it is read, beside the bytes that its digits made so far.
+use mathlib.Core.Bool.{Bool, true, false, not, _&&_, cond}
+use mathlib.Core.List.{List, [], _∷_}
+use Prim.Native.Nat.{ℕ, _+_, _*_, _/_, _%_}
+use lib.Dec.{leb, ltb, eqb}
+use lib.ListN.{length, set}
+use Rattle.records.specs.Hex.{digitValue, allDigits, longestField}
+use Rattle.records.specs.declared.line.Line.{Line}
+
+-- a line of which nothing was read yet
+abbrev pub freshLine : Line
+freshLine = record { digits = 0; half = 0; spoiled = false }
+
+-- a line that can become good no more, whatever follows
+abbrev pub spoiledLine : Line
+spoiledLine = record { digits = 0; half = 0; spoiled = true }
+
+-- nothing in the line so far spoils it: digits alone, and no more of them than the longest line has
+unfoldable pub fitting : List ℕ → Bool
+fitting s = allDigits s && leb (length s) (longestField * 2)
+
+-- the value of a last digit that has no second one, and else 0
+unfoldable pub pending : List ℕ → ℕ
+pending [] = 0
+pending (h ∷ []) = digitValue h
+pending (h ∷ l ∷ s) = pending s
+
+-- what is kept of a line
+unfoldable pub lineOf : List ℕ → Line
+lineOf s = cond (fitting s) (record { digits = length s; half = pending s; spoiled = false }) spoiledLine
+
+-- the byte is one more digit of the line; any other byte spoils it
+unfoldable pub taken : Line → ℕ → Bool
+taken line b = not (line .spoiled) && (ltb (digitValue b) 16 && ltb (line .digits) (longestField * 2))
+
+-- the line with one byte more
+unfoldable pub fed : Line → ℕ → Line
+fed line b =
+    cond (taken line b)
+    (record {
+      digits = line .digits + 1;
+      half = cond (eqb (line .digits % 2) 0) (digitValue b) 0;
+      spoiled = false;
+    })
+    spoiledLine
+
+-- its bytes then: a second digit makes one
+unfoldable pub stored : Line → ℕ → List ℕ → List ℕ
+stored line b bytes =
+    cond (taken line b && eqb (line .digits % 2) 1)
+    (set bytes (line .digits / 2) (line .half % 16 * 16 + digitValue b))
+    bytes
+
+-- the line, ended here, is good
+unfoldable pub endsGood : Line → Bool
+endsGood line = not (line .spoiled) && eqb (line .digits % 2) 0

@@ -1,0 +1,73 @@
+// The lines that answer a record, each written to the front of an output; what is returned is how long the line is.
+use crate::hex::write_hex;
+use crate::machine::Machine;
+use crate::machine::remains;
+ghost use Prim.Native.Nat.{_+_, _*_, _≤_, _<_};
+ghost use lib.ListN.{length};
+ghost use Rattle.records.specs.Answers.{sealedLine, numberLine, Wrote};
+ghost use Rattle.records.specs.Records.{badLine, cutLine};
+ghost use Rattle.records.specs.Kept.{lastLine};
+
+// `0 `, then the sealed bytes in hex.
+pub fn write_sealed(out: &mut [u8], sealed: &[u8]) -> usize
+    requires { ⌜ length (now sealed) * 2 + 3 ≤ length (now out) ⌝ }
+    ensures { λ r. ⌜ Wrote (sealedLine (now (sealed .entry))) (now (out .entry)) (now (out .exit)) r ⌝ }
+{
+    out[0] = b'0';
+    out[1] = b' ';
+    write_hex(out, 2, sealed);
+    let end = sealed.len() * 2 + 2;
+    out[end] = b'\n';
+    end + 1
+}
+
+// A number alone, as that of a refusal.
+pub fn write_number(out: &mut [u8], n: u8) -> usize
+    requires { ⌜ (n < 100) × (3 ≤ length (now out)) ⌝ }
+    ensures { λ r. ⌜ Wrote (numberLine n) (now (out .entry)) (now (out .exit)) r ⌝ }
+{
+    if n < 10 {
+        out[0] = b'0' + n;
+        out[1] = b'\n';
+        return 2;
+    }
+    out[0] = b'0' + n / 10;
+    out[1] = b'0' + n % 10;
+    out[2] = b'\n';
+    3
+}
+
+// `bad`, for a record with a line that is not good.
+pub fn write_bad(out: &mut [u8]) -> usize
+    requires { ⌜ 4 ≤ length (now out) ⌝ }
+    ensures { λ r. ⌜ Wrote badLine (now (out .entry)) (now (out .exit)) r ⌝ }
+{
+    out[0] = b'b';
+    out[1] = b'a';
+    out[2] = b'd';
+    out[3] = b'\n';
+    4
+}
+
+// What is written where the input ends: `cut`, or nothing if it ends with a whole record.
+pub fn write_last(out: &mut [u8], m: Machine) -> usize
+    requires { ⌜ 4 ≤ length (now out) ⌝ }
+    ensures { λ r. ⌜ Wrote (lastLine m) (now (out .entry)) (now (out .exit)) r ⌝ }
+{
+    if remains(m) {
+        return write_cut(out);
+    }
+    0
+}
+
+// `cut`, for what remains of an input without its four line feeds.
+fn write_cut(out: &mut [u8]) -> usize
+    requires { ⌜ 4 ≤ length (now out) ⌝ }
+    ensures { λ r. ⌜ Wrote cutLine (now (out .entry)) (now (out .exit)) r ⌝ }
+{
+    out[0] = b'c';
+    out[1] = b'u';
+    out[2] = b't';
+    out[3] = b'\n';
+    4
+}
