@@ -1,4 +1,5 @@
--- What the calls for C and Rust promise: what the calls by value do, with the answer as its number and the count stored.
+-- What sealing and opening at once promise to C and Rust: what the calls by value do, with the answer as its number and the count
+-- stored.
 use mathlib.Core.Path.{_≡_}
 use mathlib.Core.List.{List}
 use Prim.Native.Nat.{ℕ}

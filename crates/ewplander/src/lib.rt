@@ -1,5 +1,12 @@
 // Ewplander for C and Rust: each call is the one by value, with the answer as document 01's number.
 use answer::number;
+use channel::Channel;
+use told::abandoned;
+use told::begun;
+use told::fed;
+use told::finished;
+use told::opened;
+ghost use Rattle.told.specs.Call.{ChannelCall, BeginCall, FeedCall, FinishCall, AbandonCall};
 ghost use Rattle.ewplander.specs.Call.{SealCall, OpenCall};
 
 // Seals as `gcm::seal` does, answers its number, and stores how many bytes were written.
@@ -38,4 +45,64 @@ pub extern "C" fn ewplander_open(
     *count = outcome.count;
     let answer = outcome.answer;
     number(answer) as u32
+}
+
+// Opens a channel as `channel::open` does, and stores it; a refusal stores the dead one.
+#[no_mangle]
+pub extern "C" fn ewplander_channel_open(
+    channel: &mut Channel,
+    key: &[u8],
+    mark: &[u8; 4],
+    tag_len: usize,
+) -> u32
+    ensures { λ r. ⌜ ChannelCall (now (key .entry)) (now (mark .entry)) «tag_len» r (now (channel .exit)) ⌝ }
+{
+    let r = opened(key, mark, tag_len);
+    *channel = r.channel;
+    r.number
+}
+
+// Begins a message as `channel::begin` does. A refusal leaves the channel as it is.
+#[no_mangle]
+pub extern "C" fn ewplander_channel_begin(channel: &mut Channel, number: u64, ad: &[u8]) -> u32
+    ensures { λ r. ⌜ BeginCall (now (channel .entry)) number (now (ad .entry)) r (now (channel .exit)) ⌝ }
+{
+    let r = begun(*channel, number, ad);
+    *channel = r.channel;
+    r.number
+}
+
+// Feeds a piece as `channel::feed` does, and stores how many bytes were written. A refusal leaves channel and output as they are.
+#[no_mangle]
+pub extern "C" fn ewplander_channel_feed(
+    channel: &mut Channel,
+    piece: &[u8],
+    out: &mut [u8],
+    count: &mut usize,
+) -> u32
+    ensures { λ r. ⌜ FeedCall (now (channel .entry)) (now (piece .entry)) (now (out .entry)) r (now (channel .exit)) (now (out .exit)) (now (count .exit)) ⌝ }
+{
+    let r = fed(*channel, piece, out, count);
+    *channel = r.channel;
+    r.number
+}
+
+// Finishes the message as `channel::finish` does, and stores its tag. A refusal leaves the channel as it is and stores zeros.
+#[no_mangle]
+pub extern "C" fn ewplander_channel_finish(channel: &mut Channel, tag: &mut [u8; 16]) -> u32
+    ensures { λ r. ⌜ FinishCall (now (channel .entry)) r (now (channel .exit)) (now (tag .exit)) ⌝ }
+{
+    let r = finished(*channel, tag);
+    *channel = r.channel;
+    r.number
+}
+
+// Abandons the message as `channel::abandon` does. A refusal leaves the channel as it is.
+#[no_mangle]
+pub extern "C" fn ewplander_channel_abandon(channel: &mut Channel) -> u32
+    ensures { λ r. ⌜ AbandonCall (now (channel .entry)) r (now (channel .exit)) ⌝ }
+{
+    let r = abandoned(*channel);
+    *channel = r.channel;
+    r.number
 }

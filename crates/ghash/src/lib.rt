@@ -14,6 +14,7 @@ ghost use Rattle.ghash.specs.Field.{timesA, sumOf, product};
 ghost use Rattle.ghash.specs.Hash.{hashFrom, lengthBlock};
 
 // An element of the hash field: a block's first and last eight bytes, each as a big-endian number.
+#[repr(C)]
 pub struct Element {
     pub high: u64,
     pub low: u64,

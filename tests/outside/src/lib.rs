@@ -1,12 +1,18 @@
-//! The proved library as a Rust program outside meets it: its two C functions, each behind a safe
-//! call that has the reference program's shape.
+//! The proved library as a program outside meets it: its C functions, each behind a safe call that
+//! takes any lengths, has the reference program's shape, and hides no answer.
+
+pub mod channel;
+pub mod random;
+
+use ewplander::raw;
 
 /// Sealing or opening, by either program: key, IV, associated data, text or sealed bytes, the
 /// tag's length, the output.
 pub type Call = fn(&[u8], &[u8], &[u8], &[u8], usize, &mut [u8]) -> (u8, usize);
 
-// The two C functions have one signature, which stands here once: no linker would notice that a
-// second copy of it went astray.
+/// No true count, so that one left unwritten is seen.
+const NO_COUNT: usize = usize::MAX;
+
 macro_rules! safe_calls {
     ($(#[$doc:meta] $name:ident calls $symbol:ident;)*) => {$(
         #[$doc]
@@ -18,28 +24,11 @@ macro_rules! safe_calls {
             tag_len: usize,
             out: &mut [u8],
         ) -> (u8, usize) {
-            extern "C" {
-                fn $symbol(
-                    key: *const u8,
-                    key_len: usize,
-                    iv: *const u8,
-                    iv_len: usize,
-                    ad: *const u8,
-                    ad_len: usize,
-                    given: *const u8,
-                    given_len: usize,
-                    tag_len: usize,
-                    out: *mut u8,
-                    out_len: usize,
-                    count: *mut usize,
-                ) -> u32;
-            }
-            // No true count, so that one left unwritten is seen.
-            let mut count = usize::MAX;
+            let mut count = NO_COUNT;
             // SAFETY: each slice goes over as its pointer and its length, and what is written to,
             // `out` and `count`, is borrowed mutably, so nothing else overlaps it.
             let answer = unsafe {
-                $symbol(
+                raw::$symbol(
                     key.as_ptr(),
                     key.len(),
                     iv.as_ptr(),
@@ -54,7 +43,7 @@ macro_rules! safe_calls {
                     &mut count,
                 )
             };
-            (answer.try_into().expect("an answer number"), count)
+            (answer_number(answer), count)
         }
     )*};
 }
@@ -64,4 +53,8 @@ safe_calls! {
     seal calls ewplander_seal;
     /// The answer and the count of bytes written to the front of `out`: the text.
     open calls ewplander_open;
+}
+
+fn answer_number(answer: u32) -> u8 {
+    answer.try_into().expect("an answer number")
 }

@@ -1,4 +1,4 @@
--- `channel::piece::absorb_bytes` meets its contract: bytes that fill no block are held; if they fill one, it goes into the hash,
+-- `pieces::absorb_bytes` meets its contract: bytes that fill no block are held; if they fill one, it goes into the hash,
 -- then the whole blocks behind it, and the rest is held.
 use mathlib.Core.Path.{_≡_, sym, ap, ap₂, _∙_}
 use mathlib.Core.List.{List, [], _++_, append-nil}

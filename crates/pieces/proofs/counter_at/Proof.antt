@@ -1,4 +1,4 @@
--- `channel::piece::counter_at` meets its contract: the bytes of the number's low half are those of the number.
+-- `pieces::counter_at` meets its contract: the bytes of the number's low half are those of the number.
 use mathlib.Core.Path.{_≡_, _∙_}
 use Rattle.octets.specs.Word.{bytesOf}
 use Rattle.octets.proofs.BlockLaws.{bytes-low}

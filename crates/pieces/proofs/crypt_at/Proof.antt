@@ -1,4 +1,4 @@
--- `channel::piece::crypt_at` meets its contract. Where the piece begins a block its counter is the one asked for; where it begins
+-- `pieces::crypt_at` meets its contract. Where the piece begins a block its counter is the one asked for; where it begins
 -- inside one, the rest of that block's keystream is used up first, and whole blocks follow.
 use mathlib.Core.Path.{_≡_, sym, ap, _∙_}
 use mathlib.Core.List.{List, [], _++_}

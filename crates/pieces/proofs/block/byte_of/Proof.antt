@@ -1,4 +1,4 @@
--- `channel::block::byte_of` meets its contract: an index past `front` counts on in `back`, and one past both gives the default.
+-- `pieces::block::byte_of` meets its contract: an index past `front` counts on in `back`, and one past both gives the default.
 use mathlib.Core.Path.{_≡_, sym, ap, _∙_}
 use mathlib.Core.List.{_++_}
 use Prim.Native.Nat.{ℕ, _+_, _-_}

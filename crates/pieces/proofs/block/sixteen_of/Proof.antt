@@ -1,4 +1,4 @@
--- `channel::block::sixteen_of` meets its contract. The invariant: the first i of the sixteen bytes stand in the block.
+-- `pieces::block::sixteen_of` meets its contract. The invariant: the first i of the sixteen bytes stand in the block.
 use mathlib.Core.Path.{_≡_, refl, sym, ap, ap₂, _∙_}
 use mathlib.Core.List.{List, _++_}
 use Prim.Native.Nat.{ℕ, _+_, _-_, _≤_, _<_}

@@ -1,0 +1,126 @@
+use crate::{raw, Error, Key};
+use std::fmt;
+
+/// A station's mark: the first four bytes of every IV of its channel.
+#[derive(Clone, Copy, Debug, PartialEq, Eq, Hash)]
+pub struct Mark(pub [u8; 4]);
+
+/// A message's number: the last eight bytes of its IV.
+#[derive(Clone, Copy, Debug, PartialEq, Eq, PartialOrd, Ord, Hash)]
+pub struct Number(pub u64);
+
+/// The tag of a finished message.
+#[derive(Clone, Copy, Debug, PartialEq, Eq)]
+pub struct Tag {
+    bytes: [u8; 16],
+    len: usize,
+}
+
+impl Tag {
+    /// The bytes of the tag, as many as its channel's tag length says.
+    pub fn as_bytes(&self) -> &[u8] {
+        &self.bytes[..self.len]
+    }
+}
+
+/// A sealing channel: messages in pieces, each under a number that is never taken twice.
+///
+/// It can be neither cloned nor copied, so no older state of it can be given again. Open one
+/// channel for a key and a mark, and use the key for nothing else.
+///
+/// ```
+/// use ewplander::{Channel, Error, Key, Mark, Number};
+///
+/// # fn main() -> Result<(), Error> {
+/// let key = Key::new(&[7; 32])?;
+/// let mut channel = Channel::open(&key, Mark(*b"pump"), 16)?;
+/// let mut frame = [0; 10];
+/// channel.begin(Number(1), b"tank 3")?;
+/// let first = channel.feed(b"level", &mut frame)?;
+/// channel.feed(b" 4.2m", &mut frame[first..])?;
+/// let tag = channel.finish()?;
+/// assert_eq!(channel.begin(Number(1), b""), Err(Error::Used));
+/// # let mut text = [0; 10];
+/// # let sealed = [&frame[..], tag.as_bytes()].concat();
+/// # ewplander::open(&key, b"pump\0\0\0\0\0\0\0\x01", b"tank 3", &sealed, 16, &mut text)?;
+/// # assert_eq!(&text, b"level 4.2m");
+/// # Ok(())
+/// # }
+/// ```
+///
+/// ```compile_fail
+/// # use ewplander::{Channel, Key, Mark};
+/// let channel = Channel::open(&Key::from([0; 16]), Mark([0; 4]), 16).unwrap();
+/// let older = channel.clone();
+/// ```
+pub struct Channel {
+    state: raw::Channel,
+    tag_len: usize,
+}
+
+impl Channel {
+    /// A new channel, in which no number was taken and no message is open; its tags have `tag_len`
+    /// bytes, 12 to 16.
+    pub fn open(key: &Key, mark: Mark, tag_len: usize) -> Result<Channel, Error> {
+        let key = key.as_bytes();
+        let mut state = raw::Channel::DEAD;
+        // SAFETY: the channel and the mark are whole, the key goes over as its pointer and length.
+        let answer = unsafe {
+            raw::ewplander_channel_open(&mut state, key.as_ptr(), key.len(), &mark.0, tag_len)
+        };
+        Error::check(answer).map(|()| Channel { state, tag_len })
+    }
+
+    /// Begins a message over its whole associated data. Its number is used from this moment on,
+    /// whatever becomes of the message.
+    pub fn begin(&mut self, number: Number, ad: &[u8]) -> Result<(), Error> {
+        // SAFETY: the channel is whole, and a slice goes over as its pointer and length.
+        Error::check(unsafe {
+            raw::ewplander_channel_begin(&mut self.state, number.0, ad.as_ptr(), ad.len())
+        })
+    }
+
+    /// Seals a piece of the message's text to the front of `out`, and gives how many bytes were
+    /// written: as many as the piece has. However a text is cut, the pieces make the ciphertext of
+    /// the whole.
+    pub fn feed(&mut self, piece: &[u8], out: &mut [u8]) -> Result<usize, Error> {
+        let mut count = 0;
+        // SAFETY: the channel is whole, a slice goes over as its pointer and length, and what is
+        // written to is borrowed mutably.
+        let answer = unsafe {
+            raw::ewplander_channel_feed(
+                &mut self.state,
+                piece.as_ptr(),
+                piece.len(),
+                out.as_mut_ptr(),
+                out.len(),
+                &mut count,
+            )
+        };
+        Error::check(answer).map(|()| count)
+    }
+
+    /// Ends the message, and gives its tag.
+    pub fn finish(&mut self) -> Result<Tag, Error> {
+        let mut bytes = [0; 16];
+        // SAFETY: the channel and the tag are whole.
+        let answer = unsafe { raw::ewplander_channel_finish(&mut self.state, &mut bytes) };
+        Error::check(answer).map(|()| Tag {
+            bytes,
+            len: self.tag_len,
+        })
+    }
+
+    /// Ends the message without a tag. Its number stays used.
+    pub fn abandon(&mut self) -> Result<(), Error> {
+        // SAFETY: the channel is whole.
+        Error::check(unsafe { raw::ewplander_channel_abandon(&mut self.state) })
+    }
+}
+
+impl fmt::Debug for Channel {
+    /// Nothing of its key is shown.
+    fn fmt(&self, f: &mut fmt::Formatter<'_>) -> fmt::Result {
+        f.debug_struct("Channel").finish_non_exhaustive()
+    }
+}
