@@ -1,2 +1,1 @@
 pub mod CipherLaws
-mod ScheduleLaws

@@ -1,8 +1,8 @@
 -- Enciphering one block (FIPS 197: CIPHER).
 use mathlib.Core.List.{List}
 use Prim.Native.Nat.{ℕ, zero, suc, _-_}
-use Rattle.aes.specs.State.{stateOf, blockOf, substitutedBytes, shiftedRows, mixedColumns, keyed}
-use Rattle.aes.specs.Schedule.{keyWordsIn, roundsFor, roundKeys}
+use Rattle.state.specs.State.{stateOf, blockOf, substitutedBytes, shiftedRows, mixedColumns, keyed}
+use Rattle.schedule.specs.Schedule.{keyWordsIn, roundsFor, roundKeys}
 
 -- round k: substitute, shift rows, mix columns, xor the next four words
 unfoldable pub rounded : List ℕ → ℕ → List (List ℕ) → List (List ℕ)

@@ -1,3 +1,1 @@
 pub mod Cipher
-pub mod Schedule
-pub mod State

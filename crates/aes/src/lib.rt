@@ -1,10 +1,7 @@
 // The block cipher of FIPS 197 for keys of 16 and 32 bytes.
 //
 // Whoever enciphers many blocks keeps a copy of the table and the round keys, and lends both.
-mod schedule;
-mod state;
-
-pub use schedule::expand;
+use schedule::expand;
 use state::add_round_key;
 use state::block_of;
 use state::mix_columns;

@@ -1,6 +1,6 @@
 // The cipher over many blocks, exported for bench/ to time.
 use aes::encipher_by;
-use aes::expand;
+use schedule::expand;
 ghost use Prim.Native.Nat.{_+_, _≤_};
 ghost use lib.ListN.{length};
 ghost use Rattle.sbox.specs.Substitution.{Substitutes};

@@ -8,7 +8,7 @@ use lib.Dec.{eqb}
 use lib.ListN.{length, take, drop, replicate}
 use Rattle.answer.specs.Number.{ifDone}
 use Rattle.octets.specs.Block.{numberAt, blockBytes, padded}
-use Rattle.aes.specs.Schedule.{keyWordsIn, roundsFor, roundKeys}
+use Rattle.schedule.specs.Schedule.{keyWordsIn, roundsFor, roundKeys}
 use Rattle.aes.specs.Cipher.{encipheredBy, enciphered}
 use Rattle.ghash.specs.Element.{valueOf, elementOf}
 use Rattle.ghash.specs.Hash.{hashFrom, hash, lengthBlock}

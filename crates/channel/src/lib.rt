@@ -4,7 +4,6 @@
 mod answers;
 
 use aes::encipher_by;
-use aes::expand;
 use answer::Answer;
 use answer::is_done;
 use answers::begin_answer;
@@ -26,9 +25,10 @@ use pieces::absorb_bytes;
 use pieces::block::sixteen_of;
 use pieces::counter_at;
 use pieces::crypt_at;
+use schedule::expand;
 ghost use mathlib.Core.Path.{_≡_};
 ghost use mathlib.Core.List.{_++_};
-ghost use Prim.Native.Nat.{_+_, _≤_};
+ghost use Prim.Native.Nat.{_+_, _^_, _≤_, _<_};
 ghost use lib.ListN.{length, take, drop};
 ghost use Rattle.ghash.specs.Element.{valueOf};
 ghost use Rattle.pieces.specs.Piece.{sixteen};
@@ -228,7 +228,7 @@ fn new_channel(key: &[u8], mark: Mark, tag_len: usize) -> Channel
 }
 
 fn begun(c: Channel, n: u64, ad: &[u8]) -> Channel
-    requires { ⌜ length (now ad) ≤ 65536 ⌝ }
+    requires { ⌜ length (now ad) < 2 ^ 32 ⌝ }
     ensures { λ r. ⌜ r ≡ begunWith c n (now (ad .entry)) ⌝ }
 {
     let h = c.h;
@@ -272,7 +272,7 @@ fn crypt_piece(out: &mut [u8], c: Channel, piece: &[u8])
 }
 
 fn with_bytes(c: Channel, bytes: &[u8]) -> Channel
-    requires { ⌜ c .message .text + length (now bytes) ≤ 65536 ⌝ }
+    requires { ⌜ c .message .text + length (now bytes) < 2 ^ 32 ⌝ }
     ensures { λ r. ⌜ r ≡ withMessage c (messageWith c (now (bytes .entry))) ⌝ }
 {
     let h = c.h;
@@ -285,7 +285,7 @@ fn with_bytes(c: Channel, bytes: &[u8]) -> Channel
 
 // The message with bytes of ciphertext taken in.
 fn message_after(h: Element, m: Message, bytes: &[u8]) -> Message
-    requires { ⌜ m .text + length (now bytes) ≤ 65536 ⌝ }
+    requires { ⌜ m .text + length (now bytes) < 2 ^ 32 ⌝ }
     ensures { λ r. ⌜ r ≡ messageAfter (valueOf h) m (now (bytes .entry)) ⌝ }
 {
     let sum = m.sum;

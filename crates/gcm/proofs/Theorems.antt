@@ -17,7 +17,7 @@ use Rattle.octets.specs.Block.{blocksFor}
 use Rattle.aes.specs.Cipher.{enciphered}
 use Rattle.aes.proofs.CipherLaws.{enciphered-sixteen}
 use Rattle.mode.specs.Mode.{hashKey, firstBlock, inputs, sealed, genuine, opened}
-use Rattle.rows.specs.Rows.{lowest, Applies, lengthRows, sealRows, openLengthRows, openRows}
+use Rattle.rows.specs.Rows.{longestText, lowest, Applies, lengthRows, sealRows, openLengthRows, openRows}
 use Rattle.gcm.specs.Promise.{sealNumber, openNumber, SealPromise, OpenPromise}
 use Rattle.mode.proofs.InputsLaws.{inputs-differ}
 use Rattle.rows.proofs.LengthLaws.{second-answers, parts-pass, seal-allows, open-allows}
@@ -26,7 +26,7 @@ use Rattle.mode.proofs.OpenLaws.{opens-sealed, sealed-genuine, genuine-sealed, 
 use Rattle.rows.proofs.RowsLaws.{lowest-exactly, lowest-none}
 
 -- The cipher input blocks of a message, j and j stepped once for each block of its text, all differ, whatever the IV's length.
-pub blocks-differ : (key iv text : List ℕ) → length text ≤ 65536
+pub blocks-differ : (key iv text : List ℕ) → length text ≤ longestText
     → (i k : ℕ) → i < k → k ≤ blocksFor (length text)
     → getD (inputs (firstBlock (hashKey (enciphered key)) iv) (blocksFor (length text))) i []
     ≡ getD (inputs (firstBlock (hashKey (enciphered key)) iv) (blocksFor (length text))) k []

@@ -1,5 +1,4 @@
 // AES-GCM at once: SP 800-38D's mode over FIPS 197's cipher. Any lengths may be handed in; document 01's rows refuse bad ones.
-use aes::expand;
 use answer::Answer;
 use answer::Outcome;
 use answer::is_done;
@@ -11,6 +10,7 @@ use mode::tag::same_tag;
 use mode::tag::tag;
 use rows::open_answer;
 use rows::seal_answer;
+use schedule::expand;
 ghost use mathlib.Core.Path.{_≡_};
 ghost use Prim.Native.Nat.{_+_, _-_, _≤_};
 ghost use lib.ListN.{length};

@@ -8,7 +8,7 @@ use ghash::hash_bytes;
 use ghash::length_block;
 use ghash::plus;
 ghost use mathlib.Core.Path.{_≡_};
-ghost use Prim.Native.Nat.{_+_, _≤_};
+ghost use Prim.Native.Nat.{_+_, _^_, _≤_, _<_};
 ghost use lib.ListN.{length, take};
 ghost use lib.Seq.{paste};
 ghost use Rattle.octets.specs.Block.{blockBytes};
@@ -29,7 +29,7 @@ pub fn hash_key(table: &[u8; 256], words: &[u32; 60], rounds: usize) -> Element
 
 // The first counter block of a message (SP 800-38D: J0).
 pub fn first_block(h: Element, iv: &[u8]) -> [u8; 16]
-    requires { ⌜ length (now iv) ≤ 128 ⌝ }
+    requires { ⌜ length (now iv) < 2 ^ 61 ⌝ }
     ensures { λ r. ⌜ r ≡ firstBlock (valueOf h) (now (iv .entry)) ⌝ }
 {
     if iv.len() == 12 {
@@ -63,7 +63,7 @@ fn plain_first_block(iv: &[u8]) -> [u8; 16]
 }
 
 fn hashed_first_block(h: Element, iv: &[u8]) -> [u8; 16]
-    requires { ⌜ length (now iv) ≤ 128 ⌝ }
+    requires { ⌜ length (now iv) < 2 ^ 61 ⌝ }
     ensures { λ r. ⌜ r ≡ blockBytes (hashedIv (valueOf h) (now (iv .entry))) ⌝ }
 {
     let zero = Element { high: 0, low: 0 };
@@ -83,7 +83,7 @@ pub fn tag(
 ) -> [u8; 16]
     requires { ⌜ Substitutes (now table) ⌝ }
     requires { ⌜ rounds ≤ 14 ⌝ }
-    requires { ⌜ (length (now ad) ≤ 65536) × (length (now text) ≤ 65536) ⌝ }
+    requires { ⌜ (length (now ad) < 2 ^ 61) × (length (now text) < 2 ^ 61) ⌝ }
     ensures { λ r. ⌜ r ≡ tagBy (valueOf h) (encipheredBy (now (words .entry)) rounds) j (now (ad .entry)) (now (text .entry)) ⌝ }
 {
     let zero = Element { high: 0, low: 0 };

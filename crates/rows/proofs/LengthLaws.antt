@@ -11,7 +11,7 @@ use lib.Dec.{eqb, ltb, eqb·suc-zero}
 use lib.ListN.{length}
 use Rattle.answer.proofs.DoneLaws.{never, was-refused}
 use Rattle.rows.specs.Passed.{Passed}
-use Rattle.rows.specs.Rows.{keyBad, ivBad, tagBad, adBad, textBad, lowest, lengthRows, sealRows, openLengthRows}
+use Rattle.rows.specs.Rows.{longestIv, longestAd, longestText, keyBad, ivBad, tagBad, adBad, textBad, lowest, lengthRows, sealRows, openLengthRows}
 
 -- a row of the first list answers for both
 pub first-answers : (n : ℕ) (a b : List Bool) → eqb (lowest n a) 0 ≡ false → lowest n (a ++ b) ≡ lowest n a
@@ -69,9 +69,9 @@ passed key iv ad text tag none =
       short-key = key-fits key (one .0) .0;
       long-key = key-fits key (one .0) .1;
       rest = record {
-        long-iv = within iv 1 128 (two .0);
-        long-ad = ltb-false 65536 ad (four .0);
-        long-text = ltb-false 65536 text (five .0);
+        long-iv = within iv 1 longestIv (two .0);
+        long-ad = ltb-false longestAd ad (four .0);
+        long-text = ltb-false longestText text (five .0);
         long-tag = within tag 12 16 (three .0);
       };
     }

@@ -10,7 +10,7 @@ use lib.Dec.{eqb, ltb}
 use lib.ListN.{length, take, drop, replicate, length-append}
 use lib.Seq.{length-take-le}
 use Rattle.answer.specs.Number.{ifDone}
-use Rattle.aes.specs.Schedule.{roundKeys}
+use Rattle.schedule.specs.Schedule.{roundKeys}
 use Rattle.aes.specs.Cipher.{encipheredBy, enciphered}
 use Rattle.ghash.specs.Element.{valueOf}
 use Rattle.ghash.proofs.ElementLaws.{value-element}
@@ -216,7 +216,7 @@ module _ (key mark : List ℕ) (t : ℕ) (opened : openingNumber (length key) t 
 -- ---- the pieces
 
 -- a piece with room enough, and no text too long, is not refused
-feed-taken : (c : Channel) (n : ℕ) (ad x piece : List ℕ) (room : ℕ) → Holds c n ad x → length piece ≤ room
+pub feed-taken : (c : Channel) (n : ℕ) (ad x piece : List ℕ) (room : ℕ) → Holds c n ad x → length piece ≤ room
     → length x + length piece ≤ longestText
     → feedNumber c (length piece) room ≡ 0
 unfolding feedNumber idle

@@ -1,3 +1,4 @@
 pub mod CutLaws
 pub mod DifferLaws
+pub mod EmptyLaws
 pub mod RunLaws

@@ -2,7 +2,7 @@
 use mathlib.Core.Path.{_∙_, ap}
 use Prim.Native.Nat.{_-_}
 use borrow.Author.Needs.{needs}
-use Rattle.aes.specs.State.{blockOf, keyed}
+use Rattle.state.specs.State.{blockOf, keyed}
 use Rattle.aes.specs.Cipher.{lastRounded, afterRounds, encipheredBy}
 use Rattle.aes.proofs.encipher_by.Statement.{statement}
 use Rattle.aes.proofs.encipher_by.Tie as tie

@@ -1,7 +1,7 @@
 -- `aes::round` meets its contract: its steps are those of the definition, each applied to the result of the one before.
 use mathlib.Core.Path.{_∙_, ap}
 use borrow.Author.Needs.{needs}
-use Rattle.aes.specs.State.{shiftedRows, mixedColumns, keyed}
+use Rattle.state.specs.State.{shiftedRows, mixedColumns, keyed}
 use Rattle.aes.specs.Cipher.{rounded}
 use Rattle.aes.proofs.round.Statement.{statement}
 use Rattle.aes.proofs.round.Tie as tie

@@ -24,7 +24,7 @@ slice-aggregate-tag c = simp length-take (omega arith)
 tag-requires : tie.Need-tag-requires
 tag-requires c κs =
     let pre = c .before .before .before .before .before .before .before .pre in
-    (pre .0, (pre .1 .0, (pre .1 .1 .0 .long-ad, simp length-take (omega (arith, pre .1 .1 .0 .long-text)))))
+    (pre .0, (pre .1 .0, (omega (arith, pre .1 .1 .0 .long-ad), simp length-take (omega (arith, pre .1 .1 .0 .long-text)))))
 
 sub-same-tag : tie.Need-sub-same-tag
 sub-same-tag c = search needs

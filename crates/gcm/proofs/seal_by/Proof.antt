@@ -28,7 +28,7 @@ slice-aggregate-tag c =
 tag-requires : tie.Need-tag-requires
 tag-requires c κs =
     let pre = c .before .before .before .before .before .before .before .before .before .before .before .pre in
-    (pre .0, (pre .1 .0, (pre .1 .1 .0 .long-ad, simp length-take (omega (arith, pre .1 .1 .0 .long-text)))))
+    (pre .0, (pre .1 .0, (omega (arith, pre .1 .1 .0 .long-ad), simp length-take (omega (arith, pre .1 .1 .0 .long-text)))))
 
 put-tag-requires : tie.Need-put-tag-requires
 put-tag-requires c κs = search needs

@@ -1,0 +1,63 @@
+-- `schedule::sub_word` meets its contract: a word of the four bytes, each substituted.
+use borrow.Author.Needs.{needs}
+use Rattle.schedule.specs.Schedule.{substitutedWord}
+use Rattle.schedule.proofs.sub_word.Statement.{statement}
+use Rattle.schedule.proofs.sub_word.Tie as tie
+
+bytes-requires : tie.Need-bytes-requires
+bytes-requires c κs = search needs
+
+array-read-substitute : tie.Need-array-read-substitute
+array-read-substitute c = search needs
+
+substitute-requires : tie.Need-substitute-requires
+substitute-requires c κs = search needs
+
+array-read-substitute-2 : tie.Need-array-read-substitute-2
+array-read-substitute-2 c = search needs
+
+substitute-requires-2 : tie.Need-substitute-requires-2
+substitute-requires-2 c κs = search needs
+
+array-read-substitute-3 : tie.Need-array-read-substitute-3
+array-read-substitute-3 c = search needs
+
+substitute-requires-3 : tie.Need-substitute-requires-3
+substitute-requires-3 c κs = search needs
+
+array-read-substitute-4 : tie.Need-array-read-substitute-4
+array-read-substitute-4 c = search needs
+
+substitute-requires-4 : tie.Need-substitute-requires-4
+substitute-requires-4 c κs = search needs
+
+word-requires : tie.Need-word-requires
+word-requires c κs = search needs
+
+returns : tie.Need-returns
+unfolding substitutedWord
+returns c =
+    rw (
+      c .word .ensures,
+      c .before .substitute4 .ensures,
+      c .before .before .substitute3 .ensures,
+      c .before .before .before .substitute2 .ensures,
+      c .before .before .before .before .substitute .ensures,
+      c .before .before .before .before .before .bytes .ensures,
+    )
+
+pub sub-word-spec : {M : Type 1} → statement M
+sub-word-spec =
+    tie.close
+    (tie.spec
+    bytes-requires
+    array-read-substitute
+    substitute-requires
+    array-read-substitute-2
+    substitute-requires-2
+    array-read-substitute-3
+    substitute-requires-3
+    array-read-substitute-4
+    substitute-requires-4
+    word-requires
+    returns)
