@@ -12,10 +12,10 @@ use std::hint::black_box;
 use std::time::{Duration, Instant};
 use table::{head, row, Line};
 
-const SIZES: [usize; 4] = [64, 1_024, 16_384, 65_536];
+const SIZES: [usize; 5] = [64, 1_024, 4_096, 16_384, 65_536];
 
 /// The longest text that a call takes.
-const LONGEST: usize = SIZES[3];
+const LONGEST: usize = SIZES[4];
 
 /// A mark, then a message's number.
 const IV: [u8; 12] = [10, 11, 12, 13, 0, 0, 0, 0, 0, 0, 1, 2];

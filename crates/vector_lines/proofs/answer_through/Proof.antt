@@ -31,17 +31,20 @@ is-done-requires c κs = search needs
 
 slice-reshare-prefix-write-sealed : tie.Need-slice-reshare-prefix-write-sealed
 slice-reshare-prefix-write-sealed c =
-    omega (arith, count (c .before), c .before .before .before .before .before .seal .kept .1 .1 .1 .1 .1 .0, c .before .before .before .before .before .before .before .before .before .before .before .before .before .pre)
+    let sealed = c .before .before .before .before .before .seal in
+    let given = c .before .before .before .before .before .before .before .before .before .before .before .before .before in
+    omega (arith, count (c .before), sealed .kept .1 .1 .1 .1 .1 .0, given .pre)
 
 slice-aggregate-write-sealed : tie.Need-slice-aggregate-write-sealed
 slice-aggregate-write-sealed c =
-    simp length-take
-    (omega (arith, count (c .before .before), c .before .before .before .before .before .before .seal .kept .1 .1 .1 .1 .1 .0, c .before .before .before .before .before .before .before .before .before .before .before .before .before .before .pre))
+    let sealed = c .before .before .before .before .before .before .seal in
+    let given = c .before .before .before .before .before .before .before .before .before .before .before .before .before .before in
+    simp length-take (omega (arith, count (c .before .before), sealed .kept .1 .1 .1 .1 .1 .0, given .pre))
 
 write-sealed-requires : tie.Need-write-sealed-requires
 write-sealed-requires c κs =
-    simp length-take
-    (omega (arith, count (c .before .before), c .before .before .before .before .before .before .before .before .before .before .before .before .before .before .pre))
+    let given = c .before .before .before .before .before .before .before .before .before .before .before .before .before .before in
+    simp length-take (omega (arith, count (c .before .before), given .pre))
 
 same-length : tie.Need-same-length
 same-length c = search needs
