@@ -1,7 +1,7 @@
 -- Done or refused: what a test of an answer tells of its number, and which of two values stands behind that number.
 use mathlib.Core.Path.{_≡_, refl, _∙_, ap, sym}
 use mathlib.Core.Bool.{Bool, true, false, not}
-use Prim.Native.Nat.{ℕ, zero, suc}
+use Prim.Native.Nat.{ℕ, zero, suc, _<_}
 use native.Mathlib.Omega.{arith}
 use borrow.Author.Tests.{not-true, not-false}
 use lib.Dec.{eqb, eqb·suc-zero}
@@ -26,3 +26,7 @@ if-done (suc n) a b done = never (sym done ∙ eqb·suc-zero n)
 
 pub when-done : {A : Type 0} {n : ℕ} (a b : A) → n ≡ 0 → ifDone n a b ≡ a
 when-done a b e = ap (λ (n : ℕ). ifDone n a b) e
+
+pub when-refused : {A : Type 0} {answer : ℕ} (number : ℕ) (a b : A) → answer ≡ number → 0 < answer → ifDone number a b ≡ b
+when-refused zero a b is some = absurd (omega arith)
+when-refused (suc n) a b is some = refl

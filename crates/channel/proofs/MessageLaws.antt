@@ -12,14 +12,15 @@ use lib.ListN.{length, getD, take, length-append}
 use Rattle.answer.proofs.DoneLaws.{when-done}
 use Rattle.octets.specs.Block.{numberAt, blockBytes, padded}
 use Rattle.aes.proofs.CipherLaws.{length-enciphered}
-use Rattle.ghash.specs.Element.{valueOf}
+use Rattle.hash_field.specs.Element.{valueOf}
 use Rattle.ghash.specs.Hash.{hashFrom, hash, lengthBlock}
 use Rattle.ghash.proofs.HashLaws.{hash-append}
-use Rattle.ghash.proofs.ElementLaws.{value-element}
+use Rattle.hash_field.proofs.ElementLaws.{value-element}
 use Rattle.ledger.specs.Ledger.{verdictOf}
-use Rattle.mode.specs.Mode.{firstBlock, crypted, tagBy}
+use Rattle.mode.specs.Mode.{firstBlock, tagBy}
+use Rattle.counter.specs.Counter.{crypted}
 use Rattle.rows.specs.Rows.{longestText, adBad, textBad}
-use Rattle.mode.proofs.ModeLaws.{crypted-nil, length-crypted}
+use Rattle.counter.proofs.CounterLaws.{crypted-nil, length-crypted}
 use Rattle.channel.specs.declared.Channel.{Channel}
 use Rattle.pieces.specs.Piece.{ivOf, counterAt, cryptedAt, waiting, sumAfter, partAfter}
 use Rattle.channel.specs.State.{
@@ -34,12 +35,11 @@ use Rattle.channel.specs.State.{
   beginOf,
   feedNumber,
   pieceOf,
-  messageAfter,
   messageWith,
-  wholeSum,
   feedOf,
   messageTag,
 }
+use Rattle.message.specs.Message.{messageAfter, wholeSum}
 use Rattle.pieces.proofs.PieceLaws.{first-counter, crypted-append, length-cryptedAt}
 use Rattle.pieces.proofs.HeldLaws.{sum-more, part-more, part-rest-zero, sum-end, sum-none, part-none}
 

@@ -1,28 +1,23 @@
 -- The sealing channel: what each call answers, and the channel, bytes and tag that it gives, for every value of the channel's
 -- fields.
 use mathlib.Core.Bool.{Bool, not, cond, _||_}
-use mathlib.Core.List.{List, [], _∷_, _++_}
-use Prim.Native.Nat.{ℕ, _+_, _%_}
+use mathlib.Core.List.{List, _++_}
+use Prim.Native.Nat.{ℕ, _+_}
 use lib.Bits.{bitXor}
 use lib.Dec.{eqb}
 use lib.ListN.{length, take, drop, replicate}
 use Rattle.answer.specs.Number.{ifDone}
-use Rattle.octets.specs.Block.{numberAt, blockBytes, padded}
+use Rattle.octets.specs.Block.{numberAt, blockBytes}
 use Rattle.schedule.specs.Schedule.{keyWordsIn, roundsFor, roundKeys}
 use Rattle.aes.specs.Cipher.{encipheredBy, enciphered}
-use Rattle.ghash.specs.Element.{valueOf, elementOf}
-use Rattle.ghash.specs.Hash.{hashFrom, hash, lengthBlock}
+use Rattle.hash_field.specs.Element.{valueOf, elementOf}
 use Rattle.ledger.specs.Ledger.{freshLedger, verdictOf, acceptedBy}
 use Rattle.mode.specs.Mode.{hashKey}
 use Rattle.rows.specs.Rows.{keyBad, tagBad, adBad, textBad, tooShort}
 use Rattle.channel.specs.declared.Channel.{Channel}
-use Rattle.channel.specs.declared.Message.{Message}
-use Rattle.pieces.specs.Piece.{ivOf, counterAt, cryptedAt, sixteen, waiting, sumAfter, partAfter}
-
--- no message in progress: every field zero
-abbrev pub noMessage : Message
-noMessage =
-    record { number = 0; sum = record { high = 0; low = 0 }; part = replicate 16 0; phase = 0; ad = 0; text = 0 }
+use Rattle.message.specs.declared.Message.{Message}
+use Rattle.message.specs.Message.{noMessage, messageBegun, messageAfter, wholeSum}
+use Rattle.pieces.specs.Piece.{ivOf, counterAt, cryptedAt, sixteen}
 
 -- the dead channel: every field zero
 abbrev pub deadChannel : Channel
@@ -94,15 +89,7 @@ begunWith c n ad =
       rounds = c .rounds;
       tag = c .tag;
       ledger = acceptedBy (c .ledger) n;
-      message =
-          record {
-            number = n;
-            sum = elementOf (hash (keyOf c) (padded ad));
-            part = replicate 16 0;
-            phase = 1;
-            ad = length ad;
-            text = 0;
-          };
+      message = messageBegun (keyOf c) n ad;
     }
 
 unfoldable pub beginOf : Channel → ℕ → List ℕ → Channel
@@ -116,18 +103,6 @@ feedNumber c piece room =
 -- the ciphertext of the piece
 unfoldable pub pieceOf : Channel → List ℕ → List ℕ
 pieceOf c piece = cryptedAt (cipherOf c) (ivIn c) (c .message .text) piece
-
--- a message with ciphertext d taken in, by the hash key h
-unfoldable pub messageAfter : ℕ → Message → List ℕ → Message
-messageAfter h m d =
-    record {
-      number = m .number;
-      sum = elementOf (sumAfter h (valueOf (m .sum)) (waiting (m .text) (m .part) d));
-      part = partAfter (waiting (m .text) (m .part) d);
-      phase = m .phase;
-      ad = m .ad;
-      text = m .text + length d;
-    }
 
 -- the channel's message with ciphertext d taken in
 abbrev pub messageWith : Channel → List ℕ → Message
@@ -145,11 +120,6 @@ endNumber c = cond (idle c) 9 0
 
 unfoldable pub endOf : Channel → Channel
 endOf c = ifDone (endNumber c) (withMessage c noMessage) c
-
--- the hash of a whole message, by the hash key h
-unfoldable pub wholeSum : ℕ → Message → ℕ
-wholeSum h m =
-    hashFrom h (valueOf (m .sum)) (padded (take (m .text % 16) (m .part)) ++ (lengthBlock (m .ad) (m .text) ∷ []))
 
 unfoldable pub messageTag : Channel → List ℕ
 messageTag c = blockBytes (bitXor (wholeSum (keyOf c) (c .message)) (numberAt (cipherOf c (counterAt (ivIn c) 0)) 0))

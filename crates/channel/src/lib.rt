@@ -10,19 +10,20 @@ use answers::begin_answer;
 use answers::feed_answer;
 use answers::is_idle;
 use answers::opening_answer;
-use ghash::Element;
-use ghash::absorb;
 use ghash::block_of;
 use ghash::element_of;
-use ghash::hash_bytes;
-use ghash::length_block;
-use ghash::plus;
+use hash_field::Element;
+use hash_field::plus;
 use ledger::Ledger;
 use ledger::accept;
 use ledger::fresh;
-use mode::tag::hash_key;
-use pieces::absorb_bytes;
-use pieces::block::sixteen_of;
+use message::Message;
+use message::cut;
+use message::message_after;
+use message::message_begun;
+use message::message_sum;
+use message::no_message;
+use mode::hash_key;
 use pieces::counter_at;
 use pieces::crypt_at;
 use schedule::expand;
@@ -30,10 +31,10 @@ ghost use mathlib.Core.Path.{_≡_};
 ghost use mathlib.Core.List.{_++_};
 ghost use Prim.Native.Nat.{_+_, _^_, _≤_, _<_};
 ghost use lib.ListN.{length, take, drop};
-ghost use Rattle.ghash.specs.Element.{valueOf};
 ghost use Rattle.pieces.specs.Piece.{sixteen};
-ghost use Rattle.channel.specs.State.{noMessage, deadChannel, newChannel, begunWith, pieceOf, messageWith};
-ghost use Rattle.channel.specs.State.{withMessage, messageAfter, roundsIn, wholeSum, messageTag};
+ghost use Rattle.message.specs.Message.{noMessage};
+ghost use Rattle.channel.specs.State.{deadChannel, newChannel, begunWith, pieceOf, messageWith, withMessage};
+ghost use Rattle.channel.specs.State.{roundsIn, messageTag};
 ghost use Rattle.channel.specs.Promise.{OpeningPromise, BeginPromise, FeedPromise, FinishPromise, AbandonPromise};
 
 // A station's mark: the first four bytes of every IV of its channel.
@@ -43,21 +44,6 @@ pub struct Mark(pub [u8; 4]);
 // A message's number: the last eight bytes of its IV.
 #[repr(C)]
 pub struct Number(pub u64);
-
-// The message in progress, all zeros where there is none.
-#[repr(C)]
-pub struct Message {
-    pub number: u64,
-    // The hash so far, over the associated data and every whole block of ciphertext.
-    pub sum: Element,
-    // The ciphertext bytes behind the last whole block, and zeros.
-    pub part: [u8; 16],
-    // Not 0 while a message is open.
-    pub phase: u32,
-    // The bytes of associated data, and of text so far.
-    pub ad: u32,
-    pub text: u32,
-}
 
 // A channel. All zeros is the dead one.
 #[repr(C)]
@@ -179,19 +165,6 @@ pub fn abandon(c: Channel) -> Step
     }
 }
 
-fn no_message() -> Message
-    ensures { λ r. ⌜ r ≡ noMessage ⌝ }
-{
-    Message {
-        number: 0,
-        sum: Element { high: 0, low: 0 },
-        part: [0u8; 16],
-        phase: 0,
-        ad: 0,
-        text: 0,
-    }
-}
-
 fn dead() -> Channel
     ensures { λ r. ⌜ r ≡ deadChannel ⌝ }
 {
@@ -233,17 +206,8 @@ fn begun(c: Channel, n: u64, ad: &[u8]) -> Channel
 {
     let h = c.h;
     let ledger = c.ledger;
-    let zero = Element { high: 0, low: 0 };
     let used = accept(ledger, n);
-    let sum = hash_bytes(h, zero, ad);
-    let message = Message {
-        number: n,
-        sum,
-        part: [0u8; 16],
-        phase: 1,
-        ad: ad.len() as u32,
-        text: 0,
-    };
+    let message = message_begun(h, n, ad);
     let mut next = c;
     next.ledger = used;
     next.message = message;
@@ -283,27 +247,6 @@ fn with_bytes(c: Channel, bytes: &[u8]) -> Channel
     next
 }
 
-// The message with bytes of ciphertext taken in.
-fn message_after(h: Element, m: Message, bytes: &[u8]) -> Message
-    requires { ⌜ m .text + length (now bytes) < 2 ^ 32 ⌝ }
-    ensures { λ r. ⌜ r ≡ messageAfter (valueOf h) m (now (bytes .entry)) ⌝ }
-{
-    let sum = m.sum;
-    let part = m.part;
-    let held = (m.text % 16) as usize;
-    let state = absorb_bytes(h, sum, &part[..held], bytes);
-    let next_sum = state.sum;
-    let next_part = state.part;
-    Message {
-        number: m.number,
-        sum: next_sum,
-        part: next_part,
-        phase: m.phase,
-        ad: m.ad,
-        text: m.text + bytes.len() as u32,
-    }
-}
-
 fn ended(c: Channel) -> Channel
     ensures { λ r. ⌜ r ≡ withMessage c noMessage ⌝ }
 {
@@ -331,27 +274,4 @@ fn message_tag(c: Channel) -> [u8; 16]
     let sum = message_sum(h, m);
     let mask = element_of(encipher_by(&table, &words, rounds_of(c), counter_at(mark, number, 0)));
     cut(block_of(plus(sum, mask)), c.tag)
-}
-
-// The hash of the whole message, its lengths behind it.
-fn message_sum(h: Element, m: Message) -> Element
-    ensures { λ r. ⌜ valueOf r ≡ wholeSum (valueOf h) m ⌝ }
-{
-    let sum = m.sum;
-    let part = m.part;
-    let held = (m.text % 16) as usize;
-    let hashed = hash_bytes(h, sum, &part[..held]);
-    absorb(h, hashed, length_block(m.ad as usize, m.text as usize))
-}
-
-// The block's first t bytes, and zeros.
-fn cut(block: [u8; 16], t: u32) -> [u8; 16]
-    requires { ⌜ length block ≡ 16 ⌝ }
-    ensures { λ r. ⌜ r ≡ sixteen (take t block) ⌝ }
-{
-    if 16 <= t {
-        return block;
-    }
-    let n = t as usize;
-    sixteen_of(&block[..n], b"")
 }

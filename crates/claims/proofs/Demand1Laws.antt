@@ -3,15 +3,15 @@
 use mathlib.Core.Path.{_≡_, refl, sym, ap, _∙_, subst}
 use mathlib.Core.Bool.{Bool, true, false, cond, false≢true, true≢false}
 use mathlib.Core.List.{List, [], _++_}
-use Prim.Native.Nat.{ℕ, zero, suc, _+_, _-_, _≤_, _<_}
+use Prim.Native.Nat.{ℕ, _+_, _-_, _≤_}
 use native.Mathlib.Omega.{arith}
 use borrow.Author.Tests.{ltb-true, ltb-false}
 use lib.Dec.{eqb, ltb}
 use lib.ListN.{length, getD, take, drop, length-append, length-take, length-drop, List·getD-eq-default}
 use lib.Seq.{drop-at}
 use Rattle.answer.specs.declared.Answer.{Answer}
-use Rattle.answer.specs.Number.{numberOf, ifDone}
-use Rattle.answer.proofs.DoneLaws.{when-done}
+use Rattle.answer.specs.Number.{numberOf}
+use Rattle.answer.proofs.DoneLaws.{when-done, when-refused}
 use Rattle.aes.specs.Cipher.{enciphered}
 use Rattle.aes.proofs.CipherLaws.{enciphered-sixteen}
 use Rattle.ledger.specs.History.{staleIn, usedIn, answerFor, verdictIn}
@@ -132,10 +132,6 @@ feed-lowest total piece room = go (textBad total) (tooShort room piece) refl ref
     go false false e f = rw (e, f)
 
 -- ---- done or refused
-
-when-refused : {A : Type 0} {answer : ℕ} (number : ℕ) (a b : A) → answer ≡ number → 0 < answer → ifDone number a b ≡ b
-when-refused zero a b is some = absurd (omega arith)
-when-refused (suc n) a b is some = refl
 
 -- n bytes in front, what stood behind them, and a count of n
 front : (n : ℕ) {count : ℕ} (written out : List ℕ) {left : List ℕ} → length written ≡ n → n ≤ length out → count ≡ n

@@ -5,8 +5,9 @@ use native.Mathlib.Omega.{arith}
 use lib.ListN.{length}
 use Rattle.octets.specs.Block.{blocksFor}
 use Rattle.aes.specs.Cipher.{enciphered}
-use Rattle.mode.specs.Mode.{hashKey, firstBlock, keystream, crypted}
-use Rattle.mode.proofs.InputsLaws.{length-inputs}
+use Rattle.mode.specs.Mode.{hashKey, firstBlock}
+use Rattle.counter.specs.Counter.{keystream, crypted}
+use Rattle.counter.proofs.InputsLaws.{length-inputs}
 use Rattle.gcm.proofs.Theorems.{blocks-differ}
 use Rattle.channel.specs.State.{newChannel}
 use Rattle.runs.specs.Run.{accepted, Judged}

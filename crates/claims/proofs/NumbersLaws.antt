@@ -3,9 +3,10 @@ use mathlib.Core.Path.{refl}
 use Rattle.octets.specs.Block.{blockBytes}
 use Rattle.sbox.specs.Field.{doubled, multiples, squares, inverse, product as byteProduct}
 use Rattle.sbox.specs.Substitution.{entryBits, substituted}
-use Rattle.ghash.specs.Field.{timesA, sumOf, product}
+use Rattle.hash_field.specs.Field.{timesA, sumOf, product}
 use Rattle.ledger.specs.Ledger.{windowOf, ledgerOf, markAt, withMark, shiftedBy, raisedTo, markedAt, acceptedBy, verdictOf}
-use Rattle.mode.specs.Mode.{counterBlock, firstBlock, stepped}
+use Rattle.counter.specs.Counter.{counterBlock, stepped}
+use Rattle.mode.specs.Mode.{firstBlock}
 use Rattle.channel.specs.State.{busy, idle, newChannel, beginNumber, begunWith, beginOf, endNumber, endOf}
 use Rattle.claims.specs.Numbers.{answersTo, EveryRowHolds}
 

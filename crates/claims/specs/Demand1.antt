@@ -20,7 +20,8 @@ use Rattle.channel.specs.declared.Channel.{Channel}
 use Rattle.channel.specs.declared.Step.{Step}
 use Rattle.channel.specs.declared.Fed.{Fed}
 use Rattle.channel.specs.declared.Finished.{Finished}
-use Rattle.channel.specs.State.{noMessage, deadChannel, withMessage, busy, idle, newChannel, begunWith}
+use Rattle.message.specs.Message.{noMessage}
+use Rattle.channel.specs.State.{deadChannel, withMessage, busy, idle, newChannel, begunWith}
 use Rattle.channel.specs.Promise.{OpeningPromise, BeginPromise, FeedPromise, FinishPromise, AbandonPromise}
 
 -- ---- words

@@ -9,7 +9,8 @@ use lib.ListN.{length, take, drop}
 use Rattle.answer.specs.declared.Outcome.{Outcome}
 use Rattle.answer.specs.Number.{numberOf}
 use Rattle.aes.specs.Cipher.{enciphered}
-use Rattle.mode.specs.Mode.{hashKey, firstBlock, crypted, sealed}
+use Rattle.mode.specs.Mode.{hashKey, firstBlock, sealed}
+use Rattle.counter.specs.Counter.{crypted}
 use Rattle.rows.specs.Rows.{longestIv, longestAd, longestText, lowest, openLengthRows}
 use Rattle.gcm.specs.Promise.{SealPromise, OpenPromise}
 use Rattle.pieces.specs.Piece.{ivOf}

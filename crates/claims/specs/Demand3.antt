@@ -11,7 +11,8 @@ use Rattle.octets.specs.Block.{blocksFor}
 use Rattle.octets.specs.Bytes.{xored, joined}
 use Rattle.aes.specs.Cipher.{enciphered}
 use Rattle.ledger.specs.Ledger.{Tells}
-use Rattle.mode.specs.Mode.{hashKey, firstBlock, inputs}
+use Rattle.mode.specs.Mode.{hashKey, firstBlock}
+use Rattle.counter.specs.Counter.{inputs}
 use Rattle.rows.specs.Rows.{longestText, adBad}
 use Rattle.channel.specs.declared.Step.{Step}
 use Rattle.channel.specs.State.{busy, openingNumber, newChannel}

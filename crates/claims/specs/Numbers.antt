@@ -6,9 +6,10 @@ use lib.ListN.{replicate}
 use Rattle.octets.specs.Block.{numberAt, blockBytes}
 use Rattle.sbox.specs.Field.{product as byteProduct}
 use Rattle.sbox.specs.Substitution.{substituted}
-use Rattle.ghash.specs.Field.{product}
+use Rattle.hash_field.specs.Field.{product}
 use Rattle.ghash.specs.Hash.{lengthBlock}
-use Rattle.mode.specs.Mode.{firstBlock, stepped}
+use Rattle.mode.specs.Mode.{firstBlock}
+use Rattle.counter.specs.Counter.{stepped}
 use Rattle.pieces.specs.Piece.{ivOf}
 use Rattle.channel.specs.declared.Channel.{Channel}
 use Rattle.channel.specs.State.{newChannel, beginNumber, beginOf, endOf}

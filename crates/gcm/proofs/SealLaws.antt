@@ -9,9 +9,10 @@ use borrow.Author.Tests.{not-true, not-false}
 use lib.ListN.{length, take, drop, length-drop}
 use lib.Seq.{paste, take-at, drop-append-add, drop-drop, length-take-le}
 use Rattle.octets.specs.Bytes.{same}
-use Rattle.mode.specs.Mode.{hashKey, firstBlock, crypted, tagBy, wholeTag, sealedBy, sealed, genuine, opened, ciphertextOf, tagOf}
+use Rattle.mode.specs.Mode.{hashKey, firstBlock, tagBy, wholeTag, sealedBy, sealed, genuine, opened, ciphertextOf, tagOf}
+use Rattle.counter.specs.Counter.{crypted}
 use Rattle.gcm.specs.Promise.{OpenedBy}
-use Rattle.mode.proofs.ModeLaws.{length-crypted}
+use Rattle.counter.proofs.CounterLaws.{length-crypted}
 
 module _ (e : List ℕ → List ℕ) (sixteen : (b : List ℕ) → length (e b) ≡ 16) where
   pub sealed-in-place : (iv ad text out : List ℕ) (t : ℕ) {h : ℕ} {j left tag end : List ℕ}

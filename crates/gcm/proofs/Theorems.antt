@@ -16,10 +16,11 @@ use Rattle.answer.proofs.NumberLaws.{number-injective}
 use Rattle.octets.specs.Block.{blocksFor}
 use Rattle.aes.specs.Cipher.{enciphered}
 use Rattle.aes.proofs.CipherLaws.{enciphered-sixteen}
-use Rattle.mode.specs.Mode.{hashKey, firstBlock, inputs, sealed, genuine, opened}
+use Rattle.mode.specs.Mode.{hashKey, firstBlock, sealed, genuine, opened}
+use Rattle.counter.specs.Counter.{inputs}
 use Rattle.rows.specs.Rows.{longestText, lowest, Applies, lengthRows, sealRows, openLengthRows, openRows}
 use Rattle.gcm.specs.Promise.{sealNumber, openNumber, SealPromise, OpenPromise}
-use Rattle.mode.proofs.InputsLaws.{inputs-differ}
+use Rattle.counter.proofs.InputsLaws.{inputs-differ}
 use Rattle.rows.proofs.LengthLaws.{second-answers, parts-pass, seal-allows, open-allows}
 use Rattle.mode.proofs.ModeLaws.{length-sealed}
 use Rattle.mode.proofs.OpenLaws.{opens-sealed, sealed-genuine, genuine-sealed, refused-exactly, only-text}

@@ -8,7 +8,7 @@ use lib.ListN.{length, drop, length-drop, drop-of-length-le}
 use lib.Seq.{drop-drop}
 use Rattle.octets.specs.Block.{numberAt, padded}
 use Rattle.octets.proofs.BlockLaws.{number-drop, padded-nil, padded-cons}
-use Rattle.ghash.specs.Field.{product}
+use Rattle.hash_field.specs.Field.{product}
 use Rattle.ghash.specs.Hash.{hashFrom}
 
 -- The hash of two lists, one after the other, goes on from that of the first.

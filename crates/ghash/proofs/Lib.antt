@@ -1,4 +1,1 @@
-pub mod ElementLaws
-pub mod FieldLaws
 pub mod HashLaws
-pub mod SumLaws

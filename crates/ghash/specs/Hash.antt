@@ -2,7 +2,7 @@
 use mathlib.Core.List.{List, [], _∷_}
 use Prim.Native.Nat.{ℕ, _+_, _*_, _^_}
 use lib.Bits.{bitXor}
-use Rattle.ghash.specs.Field.{product}
+use Rattle.hash_field.specs.Field.{product}
 
 -- from a hash so far: for each block x it becomes (hash xor x)·h
 unfoldable pub hashFrom : ℕ → ℕ → List ℕ → ℕ

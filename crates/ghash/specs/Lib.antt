@@ -1,3 +1,1 @@
-pub mod Element
-pub mod Field
 pub mod Hash

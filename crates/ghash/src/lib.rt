@@ -1,24 +1,21 @@
-// The hash field and the hash of SP 800-38D.
+// The hash of SP 800-38D, and the elements that blocks of bytes make.
+use hash_field::Element;
+use hash_field::multiply;
+use hash_field::plus;
+use octets::block_from;
 use octets::bytes;
 use octets::long;
 use octets::long_at;
 use octets::word;
 ghost use mathlib.Core.Path.{_≡_};
-ghost use Prim.Native.Nat.{_+_, _*_, _^_, _≤_, _<_};
+ghost use Prim.Native.Nat.{_^_, _≤_, _<_};
 ghost use lib.Bits.{bitXor};
 ghost use lib.ListN.{length, getD};
 ghost use Rattle.octets.specs.Word.{wordAt};
 ghost use Rattle.octets.specs.Block.{numberAt, blockBytes, padded};
-ghost use Rattle.ghash.specs.Element.{valueOf, timesPower};
-ghost use Rattle.ghash.specs.Field.{timesA, sumOf, product};
+ghost use Rattle.hash_field.specs.Element.{valueOf};
+ghost use Rattle.hash_field.specs.Field.{product};
 ghost use Rattle.ghash.specs.Hash.{hashFrom, lengthBlock};
-
-// An element of the hash field: a block's first and last eight bytes, each as a big-endian number.
-#[repr(C)]
-pub struct Element {
-    pub high: u64,
-    pub low: u64,
-}
 
 // The element that sixteen bytes of s make, from index `at` on, with zeros for those past its end.
 pub fn element_at(s: &[u8], at: usize) -> Element
@@ -76,93 +73,12 @@ pub fn element_of(block: [u8; 16]) -> Element
 pub fn block_of(e: Element) -> [u8; 16]
     ensures { λ r. ⌜ r ≡ blockBytes (valueOf e) ⌝ }
 {
-    let a = bytes((e.high >> 32) as u32);
-    let b = bytes((e.high % 4294967296) as u32);
-    let c = bytes((e.low >> 32) as u32);
-    let d = bytes((e.low % 4294967296) as u32);
-    [
-        a[0],
-        a[1],
-        a[2],
-        a[3],
-        b[0],
-        b[1],
-        b[2],
-        b[3],
-        c[0],
-        c[1],
-        c[2],
-        c[3],
-        d[0],
-        d[1],
-        d[2],
-        d[3],
-    ]
-}
-
-// The sum of a and b.
-pub fn plus(a: Element, b: Element) -> Element
-    ensures { λ r. ⌜ valueOf r ≡ bitXor (valueOf a) (valueOf b) ⌝ }
-{
-    Element {
-        high: a.high ^ b.high,
-        low: a.low ^ b.low,
-    }
-}
-
-// y·a: every bit one place toward the last byte, and e1 into byte 0 if one fell out.
-fn times_a(y: Element) -> Element
-    ensures { λ r. ⌜ valueOf r ≡ timesA (valueOf y) ⌝ }
-{
-    Element {
-        high: (y.high >> 1) ^ ((y.low % 2) * 0xe100000000000000),
-        low: (y.low >> 1) | (y.high << 63),
-    }
-}
-
-// y for the bit 1, zero for the bit 0, without a branch.
-fn times_bit(bit: u64, y: Element) -> Element
-    requires { ⌜ bit < 2 ⌝ }
-    ensures { λ r. ⌜ valueOf r ≡ bit * valueOf y ⌝ }
-{
-    Element {
-        high: bit * y.high,
-        low: bit * y.low,
-    }
-}
-
-// A product on its way: the sum so far, and y times the power of a whose turn it is.
-struct Partial {
-    sum: Element,
-    power: Element,
-}
-
-// The sum with y, y·a, y·a^2 and so on added, over those of 64 bits that are set, the highest first.
-fn add_powers(bits: u64, sum: Element, y: Element) -> Partial
-    ensures { λ r. ⌜ valueOf (r .sum) ≡ bitXor (valueOf sum) (sumOf 64 bits (valueOf y)) ⌝ }
-    ensures { λ r. ⌜ valueOf (r .power) ≡ timesPower 64 (valueOf y) ⌝ }
-{
-    let mut so_far = sum;
-    let mut power = y;
-    let mut left: u64 = 64;
-    while 0 < left {
-        let more = plus(so_far, times_bit((bits >> (left - 1)) % 2, power));
-        so_far = more;
-        let next = times_a(power);
-        power = next;
-        left -= 1;
-    }
-    Partial { sum: so_far, power }
-}
-
-// The product of x and y.
-pub fn multiply(x: Element, y: Element) -> Element
-    ensures { λ r. ⌜ valueOf r ≡ product (valueOf x) (valueOf y) ⌝ }
-{
-    let zero = Element { high: 0, low: 0 };
-    let upper = add_powers(x.high, zero, y);
-    let lower = add_powers(x.low, upper.sum, upper.power);
-    lower.sum
+    block_from(
+        bytes((e.high >> 32) as u32),
+        bytes((e.high % 4294967296) as u32),
+        bytes((e.low >> 32) as u32),
+        bytes((e.low % 4294967296) as u32),
+    )
 }
 
 // The hash after one block more: x, where it was `sum`.

@@ -9,19 +9,10 @@ use native.Mathlib.Omega.{arith}
 use lib.ListN.{length, take, length-append, length-take, take-append-drop}
 use lib.Seq.{take-at, drop-at}
 use Rattle.octets.proofs.BytesLaws.{same-true, same-refl}
-use Rattle.mode.specs.Mode.{
-  hashKey,
-  firstBlock,
-  crypted,
-  wholeTag,
-  sealedBy,
-  sealed,
-  ciphertextOf,
-  tagOf,
-  genuine,
-  opened,
-}
-use Rattle.mode.proofs.ModeLaws.{length-tag, crypted-twice}
+use Rattle.mode.specs.Mode.{hashKey, firstBlock, wholeTag, sealedBy, sealed, ciphertextOf, tagOf, genuine, opened}
+use Rattle.counter.specs.Counter.{crypted}
+use Rattle.mode.proofs.ModeLaws.{length-tag}
+use Rattle.counter.proofs.CounterLaws.{crypted-twice}
 
 ciphertext-of : (c tag : List ℕ) (t : ℕ) → length tag ≡ t → ciphertextOf t (c ++ tag) ≡ c
 ciphertext-of c tag t h = take-at c tag (length (c ++ tag) - t) (rw length-append (omega arith))

@@ -5,7 +5,7 @@ use Prim.Native.Nat.{ℕ}
 use lib.Bits.{bitXor}
 use lib.ListN.{length}
 use Rattle.octets.specs.Block.{padded}
-use Rattle.ghash.specs.Field.{product}
+use Rattle.hash_field.specs.Field.{product}
 use Rattle.ghash.specs.Hash.{hashFrom, hash, lengthBlock}
 use Rattle.ghash.proofs.HashLaws.{hash-append}
 use Rattle.mode.specs.Mode.{hashedIv, hashedBlocks}

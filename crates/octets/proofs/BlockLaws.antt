@@ -1,4 +1,5 @@
--- Blocks of a list: where they stand once a front is dropped, how they go on behind others, how zero padding begins, and the bytes of a block, by its halves.
+-- Blocks of a list: where they stand once a front is dropped, how they go on behind others, how zero padding begins, and the
+-- bytes of a block, by its halves.
 use mathlib.Core.Path.{_≡_, refl, sym, ap, ap₂, _∙_}
 use mathlib.Core.List.{List, [], _∷_, _++_}
 use Prim.Native.Nat.{ℕ, zero, suc, _+_, _-_, _*_, _/_, _%_, _^_, _≤_, _<_}

@@ -58,7 +58,8 @@ xored-twice (a ∷ s) [] h = absurd (not-suc-le-zero h)
 xored-twice (a ∷ s) (b ∷ k) h =
     ap₂ {C = List ℕ} (λ x r. x ∷ r) (xor-cancel a b) (xored-twice s k (le-of-suc-le-suc h))
 
-both-true : (a b : Bool) → (a && b) ≡ true → (a ≡ true) × (b ≡ true)
+-- Two tests that hold together hold each.
+pub both-true : (a b : Bool) → (a && b) ≡ true → (a ≡ true) × (b ≡ true)
 both-true true b e = (refl, e)
 both-true false b e = absurd (false≢true e)
 

@@ -1,8 +1,8 @@
 // Bytes, and the big-endian numbers that they make.
 ghost use mathlib.Core.Path.{_≡_};
-ghost use Prim.Native.Nat.{_+_, _*_, _^_, _≤_};
+ghost use Prim.Native.Nat.{_+_, _*_, _^_, _≤_, min};
 ghost use lib.ListN.{length};
-ghost use Rattle.octets.specs.Block.{longAt};
+ghost use Rattle.octets.specs.Block.{longAt, blockFrom};
 ghost use Rattle.octets.specs.Word.{wordOf, wordAt, bytesOf};
 
 // The word whose bytes are a, b, c and d, the highest first.
@@ -45,4 +45,35 @@ pub fn long_at(s: &[u8], at: usize) -> u64
     ensures { λ r. ⌜ r ≡ longAt (now (s .entry)) at ⌝ }
 {
     long(word_at(s, at), word_at(s, at + 4))
+}
+
+// The block of sixteen bytes that a, b, c and d make, one after the other.
+pub fn block_from(a: [u8; 4], b: [u8; 4], c: [u8; 4], d: [u8; 4]) -> [u8; 16]
+    ensures { λ r. ⌜ r ≡ blockFrom a b c d ⌝ }
+{
+    [
+        a[0],
+        a[1],
+        a[2],
+        a[3],
+        b[0],
+        b[1],
+        b[2],
+        b[3],
+        c[0],
+        c[1],
+        c[2],
+        c[3],
+        d[0],
+        d[1],
+        d[2],
+        d[3],
+    ]
+}
+
+// The lesser of two counts.
+pub fn least(a: usize, b: usize) -> usize
+    ensures { λ r. ⌜ r ≡ min a b ⌝ }
+{
+    if a < b { a } else { b }
 }

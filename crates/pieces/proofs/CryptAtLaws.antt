@@ -10,7 +10,7 @@ use lib.Seq.{paste, take-all, take-at, drop-at, drop-drop}
 use borrow.Rule.Slice.PartMut.{putMid}
 use Rattle.octets.specs.Bytes.{xored}
 use Rattle.octets.proofs.BytesLaws.{length-xored, xored-append}
-use Rattle.mode.specs.Mode.{crypted}
+use Rattle.counter.specs.Counter.{crypted}
 use Rattle.pieces.specs.Piece.{sixteen}
 use Rattle.pieces.proofs.HeldLaws.{sixteen-take}
 

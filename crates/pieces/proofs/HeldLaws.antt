@@ -10,7 +10,7 @@ use lib.Seq.{take-length, drop-append-le, drop-drop}
 use Rattle.octets.specs.Block.{numberAt, blocksFor, blocks, padded}
 use Rattle.octets.proofs.BlockLaws.{blocks-front, blocks-append, padded-whole}
 use Rattle.octets.proofs.ElementsLaws.{elements-take, elements-past}
-use Rattle.ghash.specs.Field.{product}
+use Rattle.hash_field.specs.Field.{product}
 use Rattle.ghash.specs.Hash.{hashFrom}
 use Rattle.ghash.proofs.HashLaws.{hash-append}
 use Rattle.pieces.specs.Piece.{sixteen, waiting, sumAfter, partAfter}

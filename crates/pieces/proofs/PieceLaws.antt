@@ -10,8 +10,9 @@ use Rattle.octets.specs.Block.{blocksFor}
 use Rattle.octets.specs.Bytes.{xored, joined}
 use Rattle.octets.proofs.BlockLaws.{word-bytes}
 use Rattle.octets.proofs.BytesLaws.{length-xored-le, xored-append, xored-over, xored-front}
-use Rattle.mode.specs.Mode.{counterBlock, firstBlock, stepped, inputs, keystream, crypted}
-use Rattle.mode.proofs.ModeLaws.{keystream-more, length-keystream}
+use Rattle.counter.specs.Counter.{counterBlock, stepped, inputs, keystream, crypted}
+use Rattle.mode.specs.Mode.{firstBlock}
+use Rattle.counter.proofs.CounterLaws.{keystream-more, length-keystream}
 use Rattle.pieces.specs.Piece.{ivOf, counterAt, cryptedAt}
 
 -- the step is to the next counter

@@ -6,9 +6,9 @@ use lib.ListN.{length, getD, take, drop}
 use Rattle.octets.specs.Word.{bytesOf}
 use Rattle.octets.specs.Block.{blocksFor, blocks}
 use Rattle.octets.specs.Bytes.{xored}
-use Rattle.ghash.specs.Element.{elementOf}
+use Rattle.hash_field.specs.Element.{elementOf}
 use Rattle.ghash.specs.Hash.{hashFrom}
-use Rattle.mode.specs.Mode.{counterBlock, keystream}
+use Rattle.counter.specs.Counter.{counterBlock, keystream}
 use Rattle.pieces.specs.declared.Held.{Held}
 
 -- the IV of a message: the mark, then the number, twelve bytes

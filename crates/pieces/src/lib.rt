@@ -3,21 +3,23 @@ pub mod block;
 
 use aes::encipher_by;
 use block::sixteen_of;
-use ghash::Element;
+use counter::crypt;
+use counter::step;
+use counter::xor_into;
 use ghash::absorb;
 use ghash::element_of;
 use ghash::hash_bytes;
-use mode::counter::crypt;
-use mode::counter::step;
-use mode::counter::xor_into;
+use hash_field::Element;
+use octets::block_from;
 use octets::bytes;
+use octets::least;
 ghost use mathlib.Core.Path.{_≡_};
 ghost use mathlib.Core.List.{_++_};
-ghost use Prim.Native.Nat.{_≤_, _<_, _^_, min};
+ghost use Prim.Native.Nat.{_≤_, _<_, _^_};
 ghost use lib.ListN.{length, drop};
 ghost use Rattle.sbox.specs.Substitution.{Substitutes};
 ghost use Rattle.aes.specs.Cipher.{encipheredBy};
-ghost use Rattle.ghash.specs.Element.{valueOf};
+ghost use Rattle.hash_field.specs.Element.{valueOf};
 ghost use Rattle.pieces.specs.Piece.{ivOf, counterAt, cryptedAt, Absorbed};
 
 // The counter block of mark and number after k blocks of text.
@@ -25,27 +27,12 @@ pub fn counter_at(mark: [u8; 4], number: u64, k: usize) -> [u8; 16]
     requires { ⌜ k < 2 ^ 32 ⌝ }
     ensures { λ r. ⌜ r ≡ counterAt (ivOf mark number) k ⌝ }
 {
-    let high = bytes((number >> 32) as u32);
-    let low = bytes((number % 4294967296) as u32);
-    let count = bytes(((k + 1) % 4294967296) as u32);
-    [
-        mark[0],
-        mark[1],
-        mark[2],
-        mark[3],
-        high[0],
-        high[1],
-        high[2],
-        high[3],
-        low[0],
-        low[1],
-        low[2],
-        low[3],
-        count[0],
-        count[1],
-        count[2],
-        count[3],
-    ]
+    block_from(
+        mark,
+        bytes((number >> 32) as u32),
+        bytes((number % 4294967296) as u32),
+        bytes(((k + 1) % 4294967296) as u32),
+    )
 }
 
 // The piece crypted to the front of `out`, where `before` bytes of text went before it.
@@ -75,12 +62,6 @@ pub fn crypt_at(
     let n = least(16 - held, piece.len());
     xor_into(out, 0, piece, sixteen_of(&block[held..], b""), n);
     crypt(&mut out[n..], table, words, rounds, next, &piece[n..]);
-}
-
-fn least(a: usize, b: usize) -> usize
-    ensures { λ r. ⌜ r ≡ min a b ⌝ }
-{
-    if a < b { a } else { b }
 }
 
 // A hash, and the bytes that wait for the rest of their block.

@@ -8,10 +8,10 @@ use native.Mathlib.Omega.{arith}
 use borrow.Author.Tests.{lt-ltb, le-ltb}
 use lib.ListN.{length, getD, drop, set, length-append}
 use lib.Seq.{sets, sets-eq, paste, take-all, drop-cons, set-at, append-snoc}
-use Rattle.records.specs.Hex.{encoded}
+use Rattle.hex.specs.Hex.{encoded}
 use Rattle.records.specs.Records.{lineFeed}
 use Rattle.records.specs.Answers.{sealedLine, numberLine, Wrote}
-use Rattle.records.proofs.HexLaws.{length-encoded}
+use Rattle.hex.proofs.HexLaws.{length-encoded}
 
 pub wrote-nothing : (out : List ℕ) → Wrote [] out out 0
 wrote-nothing out = record { counts = refl; front = refl }

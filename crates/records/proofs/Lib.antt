@@ -1,7 +1,5 @@
 pub mod AnswerLaws
 pub mod ChunkLaws
-pub mod HexLaws
-pub mod LineLaws
 pub mod ScanLaws
 pub mod ServeLaws
 pub mod SplitLaws

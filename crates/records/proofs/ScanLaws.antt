@@ -9,17 +9,18 @@ use native.Mathlib.Omega.{arith}
 use lib.Dec.{eqb}
 use lib.ListN.{length, getD, drop, set, length-set, drop-of-length-le, take-append-drop}
 use lib.Seq.{drop-cons, drop-drop}
-use Rattle.records.specs.Hex.{digitValue, goodLine, longestField}
-use Rattle.records.specs.Line.{freshLine, taken, fed, stored, endsGood}
+use Rattle.hex.specs.Hex.{digitValue, goodLine, longestField}
+use Rattle.hex.specs.Line.{freshLine, taken, fed, stored, endsGood}
 use Rattle.records.specs.Records.{lineFeed}
 use Rattle.records.specs.Reading.{State, inKey, inIv, inAd, inText, Next, more, whole}
 use Rattle.records.specs.Reading.{step, start, scanned, takenOf, leftOf}
 use Rattle.records.specs.Kept.{freshMachine, withLine, fieldOf, lineEnded, byteTaken, byteStored, Took}
-use Rattle.records.specs.Told.{Roomy, Holds, Counted, At, Reads, Tells, Scanned, bytesFrom}
+use Rattle.records.specs.Told.{Roomy, At, Reads, Tells, Scanned, bytesFrom}
+use Rattle.hex.specs.Line.{Holds, Counted}
 use Rattle.records.specs.declared.machine.Machine.{Machine}
 use Rattle.records.specs.declared.machine.Stop.{Stop}
 use Rattle.records.proofs.ChunkLaws.{scan-more, left-more, scan-whole, left-whole, taken-left}
-use Rattle.records.proofs.LineLaws.{line-fresh, line-more, good-line, holds-none, holds-more, counted}
+use Rattle.hex.proofs.LineLaws.{line-fresh, line-more, good-line, holds-none, holds-more, counted}
 
 -- what one byte does to the machine and to a buffer
 

@@ -1,13 +1,15 @@
 -- What the machine tells is what is to be written: `bad` or the answer to the bytes in the buffers for a whole record, `cut` for
 -- what remains at the end, and nothing while a record is not whole.
 use mathlib.Core.Path.{_≡_, refl, sym, ap, _∙_}
-use mathlib.Core.Bool.{true, false, _&&_}
-use mathlib.Core.List.{List}
+use mathlib.Core.Bool.{Bool, true, false, not, _&&_, _||_, cond}
+use mathlib.Core.List.{List, [], _∷_}
 use Prim.Native.Nat.{ℕ, _≤_, _<_, zero-le}
 use native.Mathlib.Omega.{arith}
+use lib.Dec.{eqb, eqb·suc-zero}
 use lib.ListN.{length, take, drop}
-use Rattle.records.specs.Hex.{goodLine}
-use Rattle.records.specs.Records.{Answering, badLine, answerTo}
+use Rattle.hex.specs.Hex.{goodLine}
+use Rattle.hex.specs.Line.{fitting, lineOf}
+use Rattle.records.specs.Records.{Answering, badLine, cutLine, cutOf, answerTo}
 use Rattle.records.specs.Reading.{State, inKey, inIv, inAd, inText, Next, more, whole, onward, said, after, written, ending}
 use Rattle.records.specs.Reading.{scanned}
 use Rattle.records.specs.Answers.{Wrote}
@@ -17,8 +19,20 @@ use Rattle.records.specs.declared.machine.Machine.{Machine}
 use Rattle.records.specs.declared.machine.Stop.{Stop}
 use Rattle.records.proofs.AnswerLaws.{wrote-nothing}
 use Rattle.records.proofs.ChunkLaws.{after-taken, written-taken}
-use Rattle.records.proofs.LineLaws.{both-true, cut-line}
+use Rattle.octets.proofs.BytesLaws.{both-true}
+use Rattle.hex.proofs.LineLaws.{line-fresh}
 use Rattle.records.proofs.ScanLaws.{open-lines, tells-start, scanned-bytes}
+
+-- a line of which anything was read shows it
+cut-line : (s : List ℕ) → cutOf s ≡ cond (lineOf s .spoiled || not (eqb (lineOf s .digits) 0)) cutLine []
+unfolding cutOf lineOf
+cut-line [] = rw line-fresh
+cut-line (b ∷ s) = go (fitting (b ∷ s)) refl
+  where
+    go : (p : Bool) → fitting (b ∷ s) ≡ p
+        → cutLine ≡ cond (lineOf (b ∷ s) .spoiled || not (eqb (lineOf (b ∷ s) .digits) 0)) cutLine []
+    go true e = rw (e, eqb·suc-zero (length s))
+    go false e = rw e
 
 module _ (answer : Answering) {m : Machine} {key iv ad text : List ℕ} (k i a t : List ℕ)
     (told : Tells m key iv ad text (whole k i a t)) where

@@ -7,7 +7,7 @@ use Prim.Native.Nat.{ℕ}
 use borrow.Author.Tests.{eqb-true}
 use lib.Dec.{eqb}
 use Rattle.records.specs.Records.{lineFeed, linesFrom, restFrom}
-use Rattle.records.proofs.LineLaws.{both-true}
+use Rattle.octets.proofs.BytesLaws.{both-true}
 
 -- each line with a line feed behind it
 unfoldable pub withFeeds : List (List ℕ) → List ℕ

@@ -3,7 +3,7 @@ use mathlib.Core.Path.{_≡_}
 use mathlib.Core.List.{List}
 use Prim.Native.Nat.{ℕ}
 use borrow.Author.Tests.{eq-eqb, ne-eqb}
-use Rattle.records.specs.Line.{fed, stored}
+use Rattle.hex.specs.Line.{fed, stored}
 use Rattle.records.specs.Records.{lineFeed}
 use Rattle.records.specs.Kept.{withLine, fieldOf, lineEnded, byteTaken, byteStored, Took}
 use Rattle.records.specs.declared.machine.Machine.{Machine}

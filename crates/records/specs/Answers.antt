@@ -5,7 +5,7 @@ use mathlib.Core.List.{List, [], _∷_, _++_}
 use Prim.Native.Nat.{ℕ, _+_, _/_, _%_}
 use lib.Dec.{ltb}
 use lib.ListN.{length, drop}
-use Rattle.records.specs.Hex.{encoded}
+use Rattle.hex.specs.Hex.{encoded}
 use Rattle.records.specs.Records.{lineFeed}
 
 -- `0 `, then the sealed bytes in hex

@@ -4,9 +4,9 @@ use mathlib.Core.Bool.{Bool, true, not, _&&_, _||_, cond}
 use mathlib.Core.List.{List, []}
 use Prim.Native.Nat.{ℕ, _/_, min}
 use lib.Dec.{eqb}
-use Rattle.records.specs.Line.{freshLine, fed, stored, endsGood}
+use Rattle.hex.specs.Line.{freshLine, fed, stored, endsGood}
 use Rattle.records.specs.Records.{lineFeed, cutLine}
-use Rattle.records.specs.declared.line.Line.{Line}
+use Rattle.hex.specs.declared.line.Line.{Line}
 use Rattle.records.specs.declared.machine.Machine.{Machine}
 
 -- the machine in front of a record

@@ -1,7 +1,5 @@
 pub mod Answers
-pub mod Hex
 pub mod Kept
-pub mod Line
 pub mod Reading
 pub mod Records
 pub mod Told

@@ -3,7 +3,7 @@ use mathlib.Core.Bool.{_&&_, cond}
 use mathlib.Core.List.{List, [], _∷_, _++_}
 use Prim.Native.Nat.{ℕ}
 use lib.Dec.{eqb}
-use Rattle.records.specs.Hex.{decoded, goodLine}
+use Rattle.hex.specs.Hex.{decoded, goodLine}
 
 abbrev pub lineFeed : ℕ
 lineFeed = 10

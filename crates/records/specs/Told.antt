@@ -2,10 +2,10 @@
 use mathlib.Core.Path.{_≡_}
 use mathlib.Core.Bool.{Bool, true, _&&_}
 use mathlib.Core.List.{List, []}
-use Prim.Native.Nat.{ℕ, _-_, _/_, _≤_, _<_}
+use Prim.Native.Nat.{ℕ, _-_, _≤_, _<_}
 use lib.ListN.{length, take, drop}
-use Rattle.records.specs.Hex.{decoded, goodLine, longestField}
-use Rattle.records.specs.Line.{fitting, lineOf}
+use Rattle.hex.specs.Hex.{goodLine, longestField}
+use Rattle.hex.specs.Line.{lineOf, Holds, Counted}
 use Rattle.records.specs.Answers.{Wrote}
 use Rattle.records.specs.Records.{Answering}
 use Rattle.records.specs.Reading.{State, inKey, inIv, inAd, inText, Next, more, whole, after, written, scanned, leftOf}
@@ -18,15 +18,6 @@ pub record Roomy (key iv ad text : List ℕ) : Type 0 where
   pub forIv : longestField ≤ length iv
   pub forAd : longestField ≤ length ad
   pub forText : longestField ≤ length text
-
--- the bytes that the digits of a line begun make stand in front of the buffer, if nothing spoils the line
-abbrev pub Holds : List ℕ → List ℕ → Type 0
-Holds line bytes = fitting line ≡ true → take (length line / 2) bytes ≡ decoded line
-
--- the bytes that an ended line stands for are so many in front of the buffer, if it is good
-pub record Counted (count : ℕ) (bytes line : List ℕ) : Type 0 where
-  pub within : count ≤ longestField
-  pub front : goodLine line ≡ true → take count bytes ≡ decoded line
 
 -- so many lines are ended, those are good or not, and this one is begun
 pub record At (m : Machine) (count : ℕ) (fine : Bool) (begun : List ℕ) : Type 0 where

@@ -1,7 +1,7 @@
 // The lines that answer a record, each written to the front of an output; what is returned is how long the line is.
-use crate::hex::write_hex;
 use crate::machine::Machine;
 use crate::machine::remains;
+use hex::digits::write_hex;
 ghost use Prim.Native.Nat.{_+_, _*_, _≤_, _<_};
 ghost use lib.ListN.{length};
 ghost use Rattle.records.specs.Answers.{sealedLine, numberLine, Wrote};

@@ -1,5 +1,3 @@
-// Lines of hex, and records of four of them.
+// Records of four lines of hex, and the lines that answer them.
 pub mod answers;
-pub mod hex;
-pub mod line;
 pub mod machine;

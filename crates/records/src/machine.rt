@@ -1,8 +1,8 @@
 // Records of four lines, taken in byte by byte.
-use crate::line::Line;
-use crate::line::ends_good;
-use crate::line::feed;
-use crate::line::fresh;
+use hex::line::Line;
+use hex::line::ends_good;
+use hex::line::feed;
+use hex::line::fresh;
 ghost use mathlib.Core.Path.{_≡_};
 ghost use mathlib.Core.Bool.{_&&_};
 ghost use Rattle.records.specs.Kept.{freshMachine, withLine, remaining, lineEnded, Took};

@@ -12,17 +12,18 @@ use lib.Seq.{length-take-le}
 use Rattle.answer.specs.Number.{ifDone}
 use Rattle.schedule.specs.Schedule.{roundKeys}
 use Rattle.aes.specs.Cipher.{encipheredBy, enciphered}
-use Rattle.ghash.specs.Element.{valueOf}
-use Rattle.ghash.proofs.ElementLaws.{value-element}
-use Rattle.mode.specs.Mode.{hashKey, firstBlock, crypted, tagBy, wholeTag, sealedBy, sealed}
+use Rattle.hash_field.specs.Element.{valueOf}
+use Rattle.hash_field.proofs.ElementLaws.{value-element}
+use Rattle.mode.specs.Mode.{hashKey, firstBlock, tagBy, wholeTag, sealedBy, sealed}
+use Rattle.counter.specs.Counter.{crypted}
 use Rattle.rows.specs.Rows.{longestText, keyBad, tagBad, textBad, tooShort}
-use Rattle.mode.proofs.ModeLaws.{crypted-nil, length-tag}
+use Rattle.counter.proofs.CounterLaws.{crypted-nil}
+use Rattle.mode.proofs.ModeLaws.{length-tag}
 use Rattle.channel.specs.declared.Channel.{Channel}
-use Rattle.channel.specs.declared.Message.{Message}
+use Rattle.message.specs.declared.Message.{Message}
 use Rattle.pieces.specs.Piece.{ivOf, sixteen}
 use Rattle.channel.specs.State.{
   withMessage,
-  noMessage,
   idle,
   cipherOf,
   keyOf,
@@ -41,6 +42,7 @@ use Rattle.channel.specs.State.{
   messageTag,
   tagOut,
 }
+use Rattle.message.specs.Message.{noMessage}
 use Rattle.runs.specs.Run.{
   Call,
   begin,

@@ -16,8 +16,9 @@ use Rattle.octets.specs.Block.{longAt, blocksFor}
 use Rattle.octets.proofs.BlockLaws.{word-bytes}
 use Rattle.aes.specs.Cipher.{enciphered}
 use Rattle.ledger.specs.History.{usedIn}
-use Rattle.mode.specs.Mode.{hashKey, counterBlock, firstBlock, inputs}
-use Rattle.mode.proofs.InputsLaws.{length-inputs, inputs-first, inputs-word, inputs-keep, inputs-differ}
+use Rattle.mode.specs.Mode.{hashKey, firstBlock}
+use Rattle.counter.specs.Counter.{counterBlock, inputs}
+use Rattle.counter.proofs.InputsLaws.{length-inputs, inputs-first, inputs-word, inputs-keep, inputs-differ}
 use Rattle.channel.specs.declared.Channel.{Channel}
 use Rattle.pieces.specs.Piece.{ivOf, counterAt}
 use Rattle.channel.specs.State.{newChannel, beginNumber, feedNumber, pieceOf}

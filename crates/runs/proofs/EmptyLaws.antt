@@ -8,12 +8,12 @@ use native.Mathlib.Omega.{arith}
 use lib.Dec.{eqb}
 use lib.ListN.{length}
 use Rattle.answer.specs.Number.{ifDone}
-use Rattle.ghash.specs.Element.{valueOf, elementOf}
-use Rattle.ghash.proofs.ElementLaws.{value-element}
+use Rattle.hash_field.specs.Element.{valueOf, elementOf}
+use Rattle.hash_field.proofs.ElementLaws.{value-element}
 use Rattle.rows.specs.Rows.{longestText}
 use Rattle.channel.specs.declared.Channel.{Channel}
+use Rattle.message.specs.Message.{noMessage, messageAfter}
 use Rattle.channel.specs.State.{
-  noMessage,
   withMessage,
   idle,
   newChannel,
@@ -22,7 +22,6 @@ use Rattle.channel.specs.State.{
   beginOf,
   feedNumber,
   pieceOf,
-  messageAfter,
   messageWith,
   feedOf,
   endNumber,

@@ -20,12 +20,11 @@ use Rattle.ledger.proofs.HistoryLaws.{
 }
 use Rattle.mode.specs.Mode.{sealedBy, sealed}
 use Rattle.rows.specs.Rows.{longestText, adBad}
-use Rattle.mode.proofs.ModeLaws.{crypted-nil}
+use Rattle.counter.proofs.CounterLaws.{crypted-nil}
 use Rattle.channel.specs.declared.Channel.{Channel}
-use Rattle.channel.specs.declared.Message.{Message}
+use Rattle.message.specs.declared.Message.{Message}
 use Rattle.channel.specs.State.{
   withMessage,
-  noMessage,
   deadChannel,
   busy,
   idle,
@@ -38,13 +37,13 @@ use Rattle.channel.specs.State.{
   beginOf,
   feedNumber,
   pieceOf,
-  messageAfter,
   messageWith,
   feedOf,
   endNumber,
   endOf,
   tagOut,
 }
+use Rattle.message.specs.Message.{noMessage, messageAfter}
 use Rattle.runs.specs.Run.{
   Call,
   begin,

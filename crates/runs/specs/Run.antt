@@ -10,7 +10,8 @@ use Rattle.answer.specs.Number.{ifDone}
 use Rattle.octets.specs.Block.{blocksFor}
 use Rattle.aes.specs.Cipher.{enciphered}
 use Rattle.ledger.specs.History.{staleIn, usedIn}
-use Rattle.mode.specs.Mode.{hashKey, firstBlock, inputs, crypted, sealed}
+use Rattle.mode.specs.Mode.{hashKey, firstBlock, sealed}
+use Rattle.counter.specs.Counter.{inputs, crypted}
 use Rattle.channel.specs.declared.Channel.{Channel}
 use Rattle.pieces.specs.Piece.{ivOf}
 use Rattle.channel.specs.State.{newChannel, beginNumber, beginOf, feedNumber, feedOf, pieceOf, endOf}

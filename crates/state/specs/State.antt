@@ -4,6 +4,7 @@ use Prim.Native.Nat.{ℕ, _+_, _*_, _%_}
 use lib.Bits.{bitXor}
 use lib.ListN.{getD}
 use Rattle.octets.specs.Word.{wordAt, bytesOf}
+use Rattle.octets.specs.Block.{blockFrom}
 use Rattle.sbox.specs.Field.{product}
 use Rattle.sbox.specs.Substitution.{substituted}
 
@@ -26,14 +27,9 @@ column s c = getD s c []
 abbrev pub stateOf : List ℕ → List (List ℕ)
 stateOf block = filled (λ r c. getD block (r + 4 * c) 0)
 
--- the block that fills the state
+-- the block that fills the state: its columns, one after the other
 abbrev pub blockOf : List (List ℕ) → List ℕ
-blockOf s =
-    row (column s 0) 0 ∷ row (column s 0) 1 ∷ row (column s 0) 2 ∷ row (column s 0) 3
-    ∷ row (column s 1) 0 ∷ row (column s 1) 1 ∷ row (column s 1) 2 ∷ row (column s 1) 3
-    ∷ row (column s 2) 0 ∷ row (column s 2) 1 ∷ row (column s 2) 2 ∷ row (column s 2) 3
-    ∷ row (column s 3) 0 ∷ row (column s 3) 1 ∷ row (column s 3) 2 ∷ row (column s 3) 3
-    ∷ []
+blockOf s = blockFrom (column s 0) (column s 1) (column s 2) (column s 3)
 
 -- each byte substituted (FIPS 197: SUBBYTES)
 unfoldable pub substitutedColumn : List ℕ → List ℕ

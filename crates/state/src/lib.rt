@@ -1,4 +1,5 @@
 // The cipher's state, `state[c][r]` the byte in row r and column c, and the four steps of a round.
+use octets::block_from;
 use octets::bytes;
 use octets::word;
 use sbox::double;
@@ -118,26 +119,5 @@ fn add_word(s: [u8; 4], w: u32) -> [u8; 4]
 pub fn block_of(s: [[u8; 4]; 4]) -> [u8; 16]
     ensures { λ r. ⌜ r ≡ blockOf s ⌝ }
 {
-    let a = s[0];
-    let b = s[1];
-    let c = s[2];
-    let d = s[3];
-    [
-        a[0],
-        a[1],
-        a[2],
-        a[3],
-        b[0],
-        b[1],
-        b[2],
-        b[3],
-        c[0],
-        c[1],
-        c[2],
-        c[3],
-        d[0],
-        d[1],
-        d[2],
-        d[3],
-    ]
+    block_from(s[0], s[1], s[2], s[3])
 }

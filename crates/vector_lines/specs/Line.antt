@@ -8,7 +8,7 @@ use Rattle.mode.specs.Mode.{sealed}
 use Rattle.answer.specs.Number.{ifDone}
 use Rattle.rows.specs.Rows.{lowest, sealRows}
 use Rattle.records.specs.Answers.{sealedLine, numberLine}
-use Rattle.records.specs.Hex.{longestField}
+use Rattle.hex.specs.Hex.{longestField}
 use Rattle.records.specs.Records.{Answering, badLine, outputOf}
 use Rattle.records.specs.declared.machine.Machine.{Machine}
 

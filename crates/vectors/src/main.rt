@@ -4,7 +4,7 @@ use libc::STDOUT_FILENO;
 use records::answers::write_last;
 use records::machine::Machine;
 use records::machine::ready;
-use vector_lines::serve_chunk;
+use vector_chunks::serve_chunk;
 ghost use mathlib.Core.Path.{_≡_};
 ghost use mathlib.Core.Bool.{false};
 ghost use Prim.Native.Nat.{_≤_};

@@ -3,7 +3,7 @@ use mathlib.Core.Path.{_∙_, ap}
 use Prim.Native.Nat.{_+_, _/_}
 use lib.ListN.{length}
 use Rattle.aes.specs.Cipher.{encipheredBy, enciphered}
-use Rattle.ghash.proofs.ElementLaws.{element-is}
+use Rattle.hash_field.proofs.ElementLaws.{element-is}
 use Rattle.mode.specs.Mode.{hashKey}
 use Rattle.channel.specs.State.{newChannel}
 use mathlib.Core.Path.{_∙_, ap}

@@ -1,5 +1,6 @@
--- `ewplander::ewplander_channel_abandon` meets its contract, by a walk along its instructions: the channel is copied out of the lent memory, `told::abandoned` is
--- called on the copy, and the channel that it hands back is stored in the lent memory. Of `told::abandoned` nothing is used but its contract.
+-- `ewplander::ewplander_channel_abandon` meets its contract, by a walk along its instructions: the channel is copied out of the
+-- lent memory, `told::abandoned` is called on the copy, and the channel that it hands back is stored in the lent memory. Of
+-- `told::abandoned` nothing is used but its contract.
 -- Lists in comments are what the walk owns at that point, in order; a number in a step is a place in that list.
 use mathlib.Core.Path.{refl, ap}
 use Prim.Native.Nat.{ℕ, _<_, _^_}

@@ -1,5 +1,6 @@
--- `ewplander::ewplander_channel_feed` meets its contract, by a walk along its instructions: the channel is copied out of the lent memory, `told::fed` is
--- called on the copy, and the channel that it hands back is stored in the lent memory. Of `told::fed` nothing is used but its contract.
+-- `ewplander::ewplander_channel_feed` meets its contract, by a walk along its instructions: the channel is copied out of the
+-- lent memory, `told::fed` is called on the copy, and the channel that it hands back is stored in the lent memory. Of
+-- `told::fed` nothing is used but its contract.
 -- Lists in comments are what the walk owns at that point, in order; a number in a step is a place in that list.
 use mathlib.Core.Path.{_≡_, refl, ap}
 use Prim.Native.Nat.{ℕ, _<_, _^_}

@@ -1,5 +1,5 @@
--- `ewplander::ewplander_channel_open` meets its contract, by a walk along its instructions: `told::opened` is
--- called, and the channel that it hands back is stored in the lent memory. Of `told::opened` nothing is used but its contract.
+-- `ewplander::ewplander_channel_open` meets its contract, by a walk along its instructions: `told::opened` is called, and the
+-- channel that it hands back is stored in the lent memory. Of `told::opened` nothing is used but its contract.
 -- Lists in comments are what the walk owns at that point, in order; a number in a step is a place in that list.
 use mathlib.Core.Path.{refl, ap}
 use Prim.Native.Nat.{ℕ, _<_, _^_}

@@ -1,8 +1,8 @@
 -- `ghash::absorb` meets its contract: the sum, and then the product.
 use mathlib.Core.Path.{ap, _∙_}
 use Prim.Native.Nat.{ℕ}
-use Rattle.ghash.specs.Element.{valueOf}
-use Rattle.ghash.specs.Field.{product}
+use Rattle.hash_field.specs.Element.{valueOf}
+use Rattle.hash_field.specs.Field.{product}
 use borrow.Author.Needs.{needs}
 use Rattle.ghash.proofs.absorb.Statement.{statement}
 use Rattle.ghash.proofs.absorb.Tie as tie

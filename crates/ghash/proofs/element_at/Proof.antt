@@ -5,7 +5,7 @@ use Prim.Native.Nat.{ℕ}
 use borrow.Rule.Slice.PartAt.{part-to-end}
 use Rattle.octets.specs.Block.{numberAt}
 use Rattle.octets.proofs.BlockLaws.{number-drop}
-use Rattle.ghash.specs.Element.{valueOf}
+use Rattle.hash_field.specs.Element.{valueOf}
 use borrow.Author.Needs.{needs}
 use Rattle.ghash.proofs.element_at.Statement.{statement}
 use Rattle.ghash.proofs.element_at.Tie as tie

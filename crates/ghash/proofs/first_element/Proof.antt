@@ -1,5 +1,5 @@
 -- `ghash::first_element` meets its contract: two halves of two words each.
-use Rattle.ghash.specs.Element.{valueOf}
+use Rattle.hash_field.specs.Element.{valueOf}
 use borrow.Author.Needs.{needs}
 use Rattle.ghash.proofs.first_element.Statement.{statement}
 use Rattle.ghash.proofs.first_element.Tie as tie

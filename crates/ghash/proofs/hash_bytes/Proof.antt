@@ -6,8 +6,8 @@ use borrow.Author.Needs.{needs}
 use lib.Bits.{bitXor}
 use lib.ListN.{length, drop}
 use Rattle.octets.specs.Block.{numberAt, padded}
-use Rattle.ghash.specs.Element.{valueOf}
-use Rattle.ghash.specs.Field.{product}
+use Rattle.hash_field.specs.Element.{valueOf}
+use Rattle.hash_field.specs.Field.{product}
 use Rattle.ghash.specs.Hash.{hashFrom}
 use Rattle.ghash.proofs.HashLaws.{hash-block, hash-end}
 use Rattle.ghash.proofs.hash_bytes.Statement.{statement}

@@ -1,6 +1,6 @@
 -- `ghash::length_block` meets its contract: eight times a length below 2^61 fits its half.
 use mathlib.Core.Path.{refl}
-use Rattle.ghash.specs.Element.{valueOf}
+use Rattle.hash_field.specs.Element.{valueOf}
 use borrow.Author.Needs.{needs}
 use Rattle.ghash.proofs.length_block.Statement.{statement}
 use Rattle.ghash.proofs.length_block.Tie as tie

@@ -9,10 +9,10 @@ use lib.Bits.{bitXor}
 use lib.ListN.{length, take, drop, length-append}
 use lib.Seq.{length-take-le, drop-append-add}
 use Rattle.octets.specs.Block.{numberAt, padded}
-use Rattle.ghash.specs.Field.{product}
-use Rattle.ghash.specs.Element.{valueOf, elementOf}
+use Rattle.hash_field.specs.Field.{product}
+use Rattle.hash_field.specs.Element.{valueOf, elementOf}
 use Rattle.ghash.specs.Hash.{hashFrom}
-use Rattle.ghash.proofs.ElementLaws.{element-value}
+use Rattle.hash_field.proofs.ElementLaws.{element-value}
 use Rattle.pieces.specs.Piece.{sixteen, sumAfter, partAfter}
 use Rattle.pieces.proofs.HeldLaws.{sum-short, part-short, sum-fill, part-fill}
 use borrow.Author.Needs.{needs}

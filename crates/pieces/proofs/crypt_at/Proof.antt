@@ -10,7 +10,7 @@ use lib.Seq.{paste, take-all}
 use Rattle.octets.specs.Bytes.{xored}
 use Rattle.aes.specs.Cipher.{encipheredBy}
 use Rattle.aes.proofs.CipherLaws.{length-enciphered}
-use Rattle.mode.specs.Mode.{stepped, crypted}
+use Rattle.counter.specs.Counter.{stepped, crypted}
 use Rattle.pieces.specs.Piece.{ivOf, counterAt, sixteen}
 use Rattle.pieces.proofs.CryptAtLaws.{part, part-drop, filled}
 use Rattle.pieces.proofs.PieceLaws.{cryptedAt-whole, cryptedAt-fill}

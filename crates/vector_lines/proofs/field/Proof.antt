@@ -6,14 +6,14 @@ use lib.ListN.{take, length-take}
 use Rattle.vector_lines.proofs.field.Statement.{statement}
 use Rattle.vector_lines.proofs.field.Tie as tie
 
-at-most-4096-requires : tie.Need-at-most-4096-requires
-at-most-4096-requires c κs = search needs
+least-requires : tie.Need-least-requires
+least-requires c κs = search needs
 
 slice-aggregate-result : tie.Need-slice-aggregate-result
-slice-aggregate-result c = simp length-take (omega (arith, c .before .at-most-4096 .ensures, c .before .before .before .pre))
+slice-aggregate-result c = simp length-take (omega (arith, c .before .least .ensures, c .before .before .before .pre))
 
 returns : tie.Need-returns
-returns c = ap (λ n. take n (c .before .before .before .args .s .now)) (c .before .at-most-4096 .ensures)
+returns c = ap (λ n. take n (c .before .before .before .args .s .now)) (c .before .least .ensures)
 
 pub field-spec : {M : Type 1} → statement M
-field-spec = tie.close (tie.spec at-most-4096-requires slice-aggregate-result returns)
+field-spec = tie.close (tie.spec least-requires slice-aggregate-result returns)

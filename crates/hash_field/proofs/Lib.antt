@@ -1,0 +1,3 @@
+pub mod ElementLaws
+pub mod FieldLaws
+pub mod SumLaws
