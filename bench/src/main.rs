@@ -175,9 +175,9 @@ impl Bench {
         let rows: Vec<String> = self.lines.iter().map(row).collect();
         let page = format!(
             "# Speed\n\n\
-             One run of `bench/run --write`, natively: {host}. Each number is the fastest of many calls, key set up in each; the \
-             associated data is empty, the IV 12 bytes, the tag 16. A channel's line counts opening, begin, every feed and finish; \
-             the reference program seals the same text at once.\n\n\
+             One run of `bench/run --write`, natively: {host}.\n\
+             Each number is the fastest of many calls, key set up in each; the associated data is empty, the IV 12 bytes, the tag 16. A\n\
+             channel's line counts opening, begin, every feed and finish; the reference program seals the same text at once.\n\n\
              {}\n{}\n\n{remarks}\n\n![Sealing at once, 128-bit key](speed.svg)\n",
             head(&self.names()),
             rows.join("\n")

@@ -12,6 +12,7 @@ ghost use Prim.Native.Nat.{_<_, _^_};
 ghost use Rattle.answer.specs.Number.{numberOf};
 ghost use Rattle.channel.specs.State.{busy, idle, openingNumber, beginNumber, feedNumber};
 
+// The answer to opening a channel: row 1, then row 3.
 pub fn opening_answer(key: usize, tag: usize) -> Answer
     ensures { λ r. ⌜ numberOf r ≡ openingNumber key tag ⌝ }
 {
@@ -24,6 +25,7 @@ pub fn opening_answer(key: usize, tag: usize) -> Answer
     Answer::Done
 }
 
+// The answer to a begin: 9, then row 4, then what the ledger says of the number.
 pub fn begin_answer(c: Channel, n: u64, ad: usize) -> Answer
     ensures { λ r. ⌜ numberOf r ≡ beginNumber c n ad ⌝ }
 {
@@ -37,6 +39,7 @@ pub fn begin_answer(c: Channel, n: u64, ad: usize) -> Answer
     verdict(ledger, n)
 }
 
+// The answer to a feed: 9, then row 5 over the text with this piece, then row 7.
 pub fn feed_answer(c: Channel, piece: usize, room: usize) -> Answer
     requires { ⌜ piece < 2 ^ 63 ⌝ }
     ensures { λ r. ⌜ numberOf r ≡ feedNumber c piece room ⌝ }

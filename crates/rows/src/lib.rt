@@ -82,6 +82,7 @@ fn length_answer(key: usize, iv: usize, ad: usize, text: usize, tag: usize) -> A
     Answer::Done
 }
 
+// Row 1: a key that has neither 16 nor 32 bytes.
 pub fn key_bad(n: usize) -> bool
     ensures { λ r. ⌜ r ≡ keyBad n ⌝ }
 {
@@ -91,6 +92,7 @@ pub fn key_bad(n: usize) -> bool
     n != 32
 }
 
+// Row 2: an empty IV, or one over the limit.
 fn iv_bad(n: usize) -> bool
     ensures { λ r. ⌜ r ≡ ivBad n ⌝ }
 {
@@ -100,6 +102,7 @@ fn iv_bad(n: usize) -> bool
     LONGEST_IV < n
 }
 
+// Row 3: a tag length below 12 or above 16.
 pub fn tag_bad(n: usize) -> bool
     ensures { λ r. ⌜ r ≡ tagBad n ⌝ }
 {
@@ -109,18 +112,21 @@ pub fn tag_bad(n: usize) -> bool
     16 < n
 }
 
+// Row 4: associated data over the limit.
 pub fn ad_bad(n: usize) -> bool
     ensures { λ r. ⌜ r ≡ adBad n ⌝ }
 {
     LONGEST_AD < n
 }
 
+// Row 5: text over the limit.
 pub fn text_bad(n: usize) -> bool
     ensures { λ r. ⌜ r ≡ textBad n ⌝ }
 {
     LONGEST_TEXT < n
 }
 
+// Rows 6 and 7: fewer bytes than are wanted.
 pub fn too_short(n: usize, wanted: usize) -> bool
     ensures { λ r. ⌜ r ≡ tooShort n wanted ⌝ }
 {
