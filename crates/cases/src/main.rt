@@ -4,8 +4,8 @@ mod station;
 
 use answer::Answer;
 use answer::number;
+use hex::digits::hex_digit;
 use libc::STDOUT_FILENO;
-ghost use Prim.Native.Nat.{_<_};
 
 fn main() {
     encipher_examples();
@@ -66,18 +66,12 @@ fn write_line(name: &[u8], bytes: &[u8]) {
 fn write_hex(bytes: &[u8]) {
     let mut i = 0;
     while i < bytes.len() {
-        let pair = hex(bytes[i]);
+        let pair = pair_of(bytes[i]);
         io::write_all(STDOUT_FILENO, &pair);
         i += 1;
     }
 }
 
-fn hex(b: u8) -> [u8; 2] {
-    [digit(b / 16), digit(b % 16)]
-}
-
-fn digit(n: u8) -> u8
-    requires { ⌜ n < 16 ⌝ }
-{
-    if n < 10 { n + b'0' } else { n - 10 + b'a' }
+fn pair_of(b: u8) -> [u8; 2] {
+    [hex_digit(b / 16), hex_digit(b % 16)]
 }

@@ -1,7 +1,7 @@
 -- The document's numbers to check by, computed: both sides of each row come to the same list.
 use mathlib.Core.Path.{refl}
 use Rattle.octets.specs.Block.{blockBytes}
-use Rattle.sbox.specs.Field.{doubled, multiples, squares, inverse, product as byteProduct}
+use Rattle.byte_field.specs.Field.{doubled, multiples, squares, inverse, product as byteProduct}
 use Rattle.sbox.specs.Substitution.{entryBits, substituted}
 use Rattle.hash_field.specs.Field.{timesA, sumOf, product}
 use Rattle.ledger.specs.Ledger.{windowOf, ledgerOf, markAt, withMark, shiftedBy, raisedTo, markedAt, acceptedBy, verdictOf}

@@ -4,7 +4,7 @@ use mathlib.Core.List.{List, [], _∷_, _++_}
 use Prim.Native.Nat.{ℕ}
 use lib.ListN.{replicate}
 use Rattle.octets.specs.Block.{numberAt, blockBytes}
-use Rattle.sbox.specs.Field.{product as byteProduct}
+use Rattle.byte_field.specs.Field.{product as byteProduct}
 use Rattle.sbox.specs.Substitution.{substituted}
 use Rattle.hash_field.specs.Field.{product}
 use Rattle.ghash.specs.Hash.{lengthBlock}

@@ -1,2 +1,1 @@
-pub mod Field
 pub mod Substitution

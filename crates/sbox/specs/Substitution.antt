@@ -4,7 +4,7 @@ use mathlib.Core.Path.{_≡_}
 use mathlib.Core.List.{List}
 use lib.Bits.{bitXor}
 use lib.ListN.{getD}
-use Rattle.sbox.specs.Field.{inverse}
+use Rattle.byte_field.specs.Field.{inverse}
 
 -- bit i of b, bit 0 the lowest, with i read modulo 8
 abbrev pub bit : ℕ → ℕ → ℕ

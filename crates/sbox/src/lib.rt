@@ -1,6 +1,5 @@
-// GF(2^8) and the substitution table of the cipher.
+// The substitution table of the cipher.
 ghost use mathlib.Core.Path.{_≡_};
-ghost use Rattle.sbox.specs.Field.{doubled};
 ghost use Rattle.sbox.specs.Substitution.{substituted, Substitutes};
 
 const TABLE: [u8; 256] = *b"\
@@ -34,11 +33,4 @@ pub fn substitute(table: &[u8; 256], b: u8) -> u8
     ensures { λ r. ⌜ r ≡ substituted b ⌝ }
 {
     table[b as usize]
-}
-
-// Twice b (FIPS 197: XTIMES).
-pub fn double(b: u8) -> u8
-    ensures { λ r. ⌜ r ≡ doubled b ⌝ }
-{
-    (b << 1) ^ ((b >> 7) * 0x1b)
 }

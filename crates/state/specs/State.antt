@@ -5,7 +5,7 @@ use lib.Bits.{bitXor}
 use lib.ListN.{getD}
 use Rattle.octets.specs.Word.{wordAt, bytesOf}
 use Rattle.octets.specs.Block.{blockFrom}
-use Rattle.sbox.specs.Field.{product}
+use Rattle.byte_field.specs.Field.{product}
 use Rattle.sbox.specs.Substitution.{substituted}
 
 abbrev pub four {ℓ} : {A : Type ℓ} → (ℕ → A) → List A

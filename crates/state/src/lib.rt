@@ -1,8 +1,8 @@
 // The cipher's state, `state[c][r]` the byte in row r and column c, and the four steps of a round.
+use byte_field::double;
 use octets::block_from;
 use octets::bytes;
 use octets::word;
-use sbox::double;
 use sbox::substitute;
 ghost use mathlib.Core.Path.{_≡_};
 ghost use Prim.Native.Nat.{_≤_};

@@ -15,11 +15,11 @@ abbrev μ-loop : tie.MeasureT-loop
 loop-holds : tie.Need-loop-holds Inv-loop μ-loop
 loop-holds c = omega arith
 
-shared-slice-read-hex : tie.Need-shared-slice-read-hex Inv-loop μ-loop
-shared-slice-read-hex c = omega arith
+shared-slice-read-pair-of : tie.Need-shared-slice-read-pair-of Inv-loop μ-loop
+shared-slice-read-pair-of c = omega arith
 
-hex-requires : tie.Need-hex-requires Inv-loop μ-loop
-hex-requires c κs = tt
+pair-of-requires : tie.Need-pair-of-requires Inv-loop μ-loop
+pair-of-requires c κs = tt
 
 slice-aggregate-write-all : tie.Need-slice-aggregate-write-all Inv-loop μ-loop
 slice-aggregate-write-all c = search needs
@@ -46,8 +46,8 @@ write-hex-spec =
     Inv-loop
     μ-loop
     loop-holds
-    shared-slice-read-hex
-    hex-requires
+    shared-slice-read-pair-of
+    pair-of-requires
     slice-aggregate-write-all
     write-all-requires
     add-i

@@ -5,7 +5,7 @@ use Prim.Native.Nat.{ℕ}
 use lib.Dec.{T, eqb, eqb→eq}
 use lib.ListN.{getD}
 use Rattle.octets.proofs.Tested.{passes, passed}
-use Rattle.sbox.specs.Field.{doubled, multiples, product, squares, inverse}
+use Rattle.byte_field.specs.Field.{doubled, multiples, product, squares, inverse}
 use Rattle.sbox.specs.Substitution.{entryBits, substituted, Substitutes}
 use Rattle.sbox.proofs.table.Statement.{statement}
 use Rattle.sbox.proofs.table.Tie as tie

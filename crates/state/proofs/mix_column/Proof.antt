@@ -4,7 +4,7 @@ use mathlib.Core.List.{List, [], _∷_}
 use Prim.Native.Nat.{ℕ}
 use borrow.Author.Needs.{needs}
 use lib.Bits.{bitXor}
-use Rattle.sbox.specs.Field.{doubled, multiples, product}
+use Rattle.byte_field.specs.Field.{doubled, multiples, product}
 use Rattle.state.specs.State.{mixed, mixedColumn}
 use Rattle.state.proofs.mix_column.Statement.{statement}
 use Rattle.state.proofs.mix_column.Tie as tie

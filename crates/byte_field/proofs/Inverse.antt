@@ -5,7 +5,7 @@ use Prim.Native.Nat.{ℕ, zero, suc, _<_}
 use native.Mathlib.Nat.{le-of-suc-le-suc, not-suc-le-zero}
 use lib.Dec.{T, eqb, eqb→eq}
 use Rattle.octets.proofs.Tested.{passes, passed}
-use Rattle.sbox.specs.Field.{doubled, multiples, product, squares, inverse}
+use Rattle.byte_field.specs.Field.{doubled, multiples, product, squares, inverse}
 
 undone : ℕ → Bool
 undone k = eqb (product (suc k) (inverse (suc k))) 1

@@ -1,9 +1,9 @@
--- `sbox::double` meets its contract: the definition is its code.
+-- `byte_field::double` meets its contract: the definition is its code.
 use mathlib.Core.Path.{refl}
 use borrow.Author.Needs.{needs}
-use Rattle.sbox.specs.Field.{doubled}
-use Rattle.sbox.proofs.double.Statement.{statement}
-use Rattle.sbox.proofs.double.Tie as tie
+use Rattle.byte_field.specs.Field.{doubled}
+use Rattle.byte_field.proofs.double.Statement.{statement}
+use Rattle.byte_field.proofs.double.Tie as tie
 
 mul-result : tie.Need-mul-result
 mul-result c = search needs
