@@ -10,7 +10,7 @@ use lib.Seq.{paste, take-paste, drop-paste, length-paste, take-all, drop-drop}
 use Rattle.bench_cipher.specs.Blocks.{firstEnciphered, eachEnciphered}
 
 -- s₀ were the blocks, s are they now; those in front of `at` are enciphered
-pub record Reached (e : List ℕ → List ℕ) (s₀ s : List ℕ) (at : ℕ) : Type 0 where
+pub record Enciphering (e : List ℕ → List ℕ) (s₀ s : List ℕ) (at : ℕ) : Type 0 where
   pub within : at ≤ length s
   pub kept : length s ≡ length s₀
   pub whole : take at s ++ eachEnciphered e (drop at s) ≡ eachEnciphered e s₀
@@ -28,13 +28,13 @@ each-more e s some =
     let more : length s / 16 ≡ suc (length (drop 16 s) / 16) = rw (length-drop 16 s) (omega arith) in
     ap (λ (n : ℕ). firstEnciphered e n s) more
 
-pub reached-none : (e : List ℕ → List ℕ) (s : List ℕ) → Reached e s s 0
-reached-none e s = record { within = omega arith; kept = refl; whole = refl }
+pub enciphering-none : (e : List ℕ → List ℕ) (s : List ℕ) → Enciphering e s s 0
+enciphering-none e s = record { within = omega arith; kept = refl; whole = refl }
 
 module _ (e : List ℕ → List ℕ) (sixteen : (b : List ℕ) → length (e b) ≡ 16) (s₀ s : List ℕ) (at : ℕ)
-    (was : Reached e s₀ s at) where
-  pub reached-more : at + 16 ≤ length s → Reached e s₀ (paste s at (e (take 16 (drop at s))) 16) (at + 16)
-  reached-more room =
+    (was : Enciphering e s₀ s at) where
+  pub enciphering-more : at + 16 ≤ length s → Enciphering e s₀ (paste s at (e (take 16 (drop at s))) 16) (at + 16)
+  enciphering-more room =
       let block = e (take 16 (drop at s)) in
       let long = sixteen (take 16 (drop at s)) in
       let enough : 16 ≤ length block = le-of-eq (sym long) in
@@ -53,7 +53,7 @@ module _ (e : List ℕ → List ℕ) (sixteen : (b : List ℕ) → length (e b) 
             ∙ was .whole;
       }
 
-  pub reached-all : length s - at < 16 → s ≡ eachEnciphered e s₀
-  reached-all few =
+  pub enciphering-all : length s - at < 16 → s ≡ eachEnciphered e s₀
+  enciphering-all few =
       let short : length (drop at s) < 16 = rw (length-drop at s) few in
       sym (take-append-drop at s) ∙ ap (λ (r : List ℕ). take at s ++ r) (sym (each-none e (drop at s) short)) ∙ was .whole

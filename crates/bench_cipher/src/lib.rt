@@ -1,10 +1,10 @@
 // The cipher over many blocks, exported for bench/ to time.
 use aes::encipher_by;
+use octets::put_bytes;
 use schedule::expand;
 ghost use mathlib.Core.Path.{_≡_};
 ghost use Prim.Native.Nat.{_+_, _≤_};
 ghost use lib.ListN.{length, take, drop};
-ghost use lib.Seq.{paste};
 ghost use Rattle.sbox.specs.Substitution.{Substitutes};
 ghost use Rattle.aes.specs.Cipher.{encipheredBy};
 ghost use Rattle.bench_cipher.specs.Blocks.{eachEnciphered, blocksUnder};
@@ -34,7 +34,7 @@ fn encipher_all(table: &[u8; 256], words: &[u32; 60], rounds: usize, blocks: &mu
     let mut at = 0;
     while 16 <= blocks.len() - at {
         let block = encipher_by(table, words, rounds, block_at(blocks, at));
-        put_block(blocks, at, block);
+        put_bytes(blocks, at, block, 16);
         at += 16;
     }
 }
@@ -51,16 +51,4 @@ fn block_at(blocks: &[u8], at: usize) -> [u8; 16]
         i += 1;
     }
     block
-}
-
-// The block, to index `at` and on.
-fn put_block(blocks: &mut [u8], at: usize, block: [u8; 16])
-    requires { ⌜ (length block ≡ 16) × (at + 16 ≤ length (now blocks)) ⌝ }
-    ensures { λ _. ⌜ now (blocks .exit) ≡ paste (now (blocks .entry)) at block 16 ⌝ }
-{
-    let mut i = 0;
-    while i < 16 {
-        blocks[at + i] = block[i];
-        i += 1;
-    }
 }

@@ -10,11 +10,11 @@ use lib.ListN.{length, drop, drop-of-length-le}
 use Rattle.records.specs.Records.{lineFeed}
 use Rattle.records.specs.Reading.{State, inKey, inIv, inAd, inText, Next, more, whole, step, start, scanned, leftOf}
 use Rattle.records.specs.Kept.{freshMachine}
-use Rattle.records.specs.Told.{Roomy, Tells, Scanned}
+use Rattle.records.specs.Remembered.{FieldBuffers, Remembers, Scanned}
 use Rattle.records.specs.declared.machine.Machine.{Machine}
 use Rattle.records.specs.declared.machine.Stop.{Stop}
 use Rattle.records.proofs.ChunkLaws.{scan-more, left-more, scan-whole, left-whole}
-use Rattle.records.proofs.ScanLaws.{open-lines, tells-start}
+use Rattle.records.proofs.ScanLaws.{open-lines, remembers-start}
 use Rattle.bench_records.specs.Count.{lineFeeds, wholeRecords}
 
 -- how many lines of a record are ended
@@ -64,21 +64,21 @@ feeds-kept state (b ∷ s) = go (λ next. feeds-kept next s) (step state b) refl
 
 pub record Counting (m : Machine) (key iv ad text input : List ℕ) (count at : ℕ) : Type 0 where
   pub state : State
-  pub tells : Tells m key iv ad text (more state)
+  pub remembers : Remembers m key iv ad text (more state)
   pub feeds : count * 4 + (endedIn state + lineFeeds (drop at input)) ≡ lineFeeds input
   pub fewer : count ≤ at
   pub within : at ≤ length input
 
-pub counting-none : (key iv ad text input : List ℕ) → Roomy key iv ad text → Counting freshMachine key iv ad text input 0 0
+pub counting-none : (key iv ad text input : List ℕ) → FieldBuffers key iv ad text → Counting freshMachine key iv ad text input 0 0
 counting-none key iv ad text input room =
-    record { state = start; tells = tells-start key iv ad text room; feeds = omega arith; fewer = omega arith; within = omega arith }
+    record { state = start; remembers = remembers-start key iv ad text room; feeds = omega arith; fewer = omega arith; within = omega arith }
 
 module _ {m : Machine} {key iv ad text input : List ℕ} {count at : ℕ} {r : Stop} {key′ iv′ ad′ text′ : List ℕ}
     (scan : Scanned m key iv ad text input at r key′ iv′ ad′ text′) (counting : Counting m key iv ad text input count at)
     (inside : at < length input) where
   scanned-feeds : count * 4 + (endedOf (scanned (counting .state) (drop at input)) + lineFeeds (drop (r .at) input)) ≡ lineFeeds input
   scanned-feeds =
-      rw (scan .left (counting .state) (counting .tells))
+      rw (scan .left (counting .state) (counting .remembers))
       (omega (arith, feeds-kept (counting .state) (drop at input), counting .feeds))
 
   -- no record is whole yet
@@ -89,12 +89,12 @@ module _ {m : Machine} {key iv ad text input : List ℕ} {count at : ℕ} {r : S
       go (more next) e =
           record {
             state = next;
-            tells = rw e at (scan .tells (counting .state) (counting .tells));
+            remembers = rw e at (scan .remembers (counting .state) (counting .remembers));
             feeds = rw e at scanned-feeds;
             fewer = omega (arith, counting .fewer, scan .reached);
             within = scan .within (counting .within);
           }
-      go (whole k i a t) e = absurd (few ((rw e at (scan .tells (counting .state) (counting .tells))) .reads .0 .ended))
+      go (whole k i a t) e = absurd (few ((rw e at (scan .remembers (counting .state) (counting .remembers))) .reads .0 .ended))
 
   -- a record is whole
   pub counting-whole : r .machine .lines ≡ 4 → Counting freshMachine key′ iv′ ad′ text′ input (count + 1) (r .at)
@@ -103,13 +103,13 @@ module _ {m : Machine} {key iv ad text input : List ℕ} {count at : ℕ} {r : S
       go : (n : Next) → scanned (counting .state) (drop at input) ≡ n
           → Counting freshMachine key′ iv′ ad′ text′ input (count + 1) (r .at)
       go (more next) e =
-          let few : r .machine .lines < 4 = open-lines next (rw e at (scan .tells (counting .state) (counting .tells))) in
+          let few : r .machine .lines < 4 = open-lines next (rw e at (scan .remembers (counting .state) (counting .remembers))) in
           absurd (omega arith)
       go (whole k i a t) e =
           let feeds : count * 4 + (4 + lineFeeds (drop (r .at) input)) ≡ lineFeeds input = rw e at scanned-feeds in
           record {
             state = start;
-            tells = tells-start key′ iv′ ad′ text′ (scan .tells (counting .state) (counting .tells) .room);
+            remembers = remembers-start key′ iv′ ad′ text′ (scan .remembers (counting .state) (counting .remembers) .room);
             feeds = omega (arith, feeds);
             fewer = omega (arith, counting .fewer, scan .further inside);
             within = scan .within (counting .within);

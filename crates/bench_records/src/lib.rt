@@ -2,7 +2,7 @@
 use records::machine::ready;
 use records::machine::scan;
 ghost use mathlib.Core.Path.{_≡_};
-ghost use Rattle.records.specs.Told.{Roomy};
+ghost use Rattle.records.specs.Remembered.{FieldBuffers};
 ghost use Rattle.bench_records.specs.Count.{wholeRecords};
 
 // How many whole records the input has. The buffers are lent, since stores to an array that nobody reads would be left out; that
@@ -15,7 +15,7 @@ pub extern "C" fn bench_records(
     text: &mut [u8; 4096],
     input: &[u8],
 ) -> usize
-    requires { ⌜ Roomy (now key) (now iv) (now ad) (now text) ⌝ }
+    requires { ⌜ FieldBuffers (now key) (now iv) (now ad) (now text) ⌝ }
     ensures { λ r. ⌜ r ≡ wholeRecords (now (input .entry)) ⌝ }
 {
     let mut machine = ready();

@@ -1,21 +1,22 @@
 // Document 01's cases: each is run, and written as a line behind its name, bytes in hex.
-mod sealing;
-mod station;
+use case_lines::write_line;
 
-use answer::Answer;
-use answer::number;
-use hex::digits::hex_digit;
-use libc::STDOUT_FILENO;
-
+// As many zeros as the longest case takes, and an output for the longest that is sealed.
 fn main() {
+    let zeros = [0u8; 65553];
+    let mut room = [0xffu8; 65552];
+    run(&zeros, &mut room);
+}
+
+fn run(zeros: &[u8], room: &mut [u8]) {
     encipher_examples();
-    seal_zeros();
-    sealing::refusals();
-    sealing::limits();
-    sealing::wrong_seals();
-    station::numbers();
-    station::in_pieces();
-    station::refusals();
+    sealing_cases::seal_zeros();
+    sealing_cases::refusals(zeros);
+    sealing_cases::limits(zeros, room);
+    sealing_cases::wrong_seals();
+    channel_cases::numbers();
+    channel_cases::in_pieces();
+    channel_cases::refusals(zeros);
 }
 
 // FIPS 197's example block under its keys of 128 and 256 bits.
@@ -33,45 +34,4 @@ fn encipher_examples() {
         b"enciphered with key 000102..1f: ",
         &aes::encipher(&long, block),
     );
-}
-
-// Sixteen zero bytes sealed with a key of 16 zeros and an IV of 12, and opened again.
-fn seal_zeros() {
-    let key = [0u8; 16];
-    let iv = [0u8; 12];
-    let zeros = [0u8; 16];
-    let mut sealed = [0xffu8; 32];
-    gcm::seal(&key, &iv, b"", &zeros, 16, &mut sealed);
-    write_line(b"16 zero bytes sealed: ", &sealed);
-    let mut text = [0xffu8; 16];
-    gcm::open(&key, &iv, b"", &sealed, 16, &mut text);
-    write_line(b"and opened again: ", &text);
-}
-
-fn say(words: &[u8]) {
-    io::write_all(STDOUT_FILENO, words);
-}
-
-fn say_answer(a: Answer) {
-    say(b" ");
-    io::print_decimal(STDOUT_FILENO, number(a) as u64);
-}
-
-fn write_line(name: &[u8], bytes: &[u8]) {
-    say(name);
-    write_hex(bytes);
-    say(b"\n");
-}
-
-fn write_hex(bytes: &[u8]) {
-    let mut i = 0;
-    while i < bytes.len() {
-        let pair = pair_of(bytes[i]);
-        io::write_all(STDOUT_FILENO, &pair);
-        i += 1;
-    }
-}
-
-fn pair_of(b: u8) -> [u8; 2] {
-    [hex_digit(b / 16), hex_digit(b % 16)]
 }

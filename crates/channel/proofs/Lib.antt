@@ -1,3 +1,1 @@
 pub mod DeterminedLaws
-pub mod MessageLaws
-pub mod StateLaws

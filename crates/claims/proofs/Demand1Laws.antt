@@ -6,7 +6,7 @@ use mathlib.Core.List.{List, [], _++_}
 use Prim.Native.Nat.{ℕ, _+_, _-_, _≤_}
 use native.Mathlib.Omega.{arith}
 use borrow.Author.Tests.{ltb-true, ltb-false}
-use lib.Dec.{eqb, ltb}
+use lib.Dec.{ltb}
 use lib.ListN.{length, getD, take, drop, length-append, length-take, length-drop, List·getD-eq-default}
 use lib.Seq.{drop-at}
 use Rattle.answer.specs.declared.Answer.{Answer}
@@ -18,9 +18,9 @@ use Rattle.ledger.specs.History.{staleIn, usedIn, answerFor, verdictIn}
 use Rattle.ledger.proofs.HistoryLaws.{verdict-tells}
 use Rattle.mode.specs.Mode.{sealed}
 use Rattle.mode.proofs.ModeLaws.{length-sealed}
-use Rattle.rows.specs.Rows.{keyBad, tagBad, adBad, textBad, tooShort, lowest, openLengthRows}
+use Rattle.rows.specs.Rows.{keyBad, tagBad, adBad, textBad, tooShort, lowest}
 use Rattle.rows.proofs.RowsLaws.{lowest-exactly, lowest-none}
-use Rattle.rows.proofs.LengthLaws.{parts-pass, seal-allows, open-allows}
+use Rattle.rows.proofs.LengthLaws.{seal-allows, open-allows}
 use Rattle.gcm.specs.Promise.{sealNumber, openNumber}
 use Rattle.gcm.proofs.Theorems.{
   seal-refused-exactly,
@@ -33,7 +33,7 @@ use Rattle.gcm.proofs.Theorems.{
 }
 use Rattle.pieces.specs.Piece.{sixteen}
 use Rattle.pieces.proofs.SixteenLaws.{sixteen-at, length-sixteen}
-use Rattle.channel.specs.State.{
+use Rattle.channel_state.specs.State.{
   busy,
   idle,
   openingNumber,
@@ -49,8 +49,7 @@ use Rattle.channel.specs.State.{
   messageTag,
   tagOut,
 }
-use Rattle.channel.proofs.StateLaws.{feed-fits}
-use Rattle.channel.proofs.MessageLaws.{piece-size}
+use Rattle.channel_state.proofs.StateLaws.{piece-size, feed-fits}
 use Rattle.channel.proofs.DeterminedLaws.{
   opening-determined,
   begin-determined,
@@ -80,12 +79,7 @@ use Rattle.claims.specs.Demand1.{
 -- ---- the rows
 
 by-rows : (rows : List Bool) (answer : Answer) → numberOf answer ≡ lowest 1 rows → ByRows rows answer
-by-rows rows answer is = (
-  λ n some.
-      let exactly = lowest-exactly rows n some in
-      (λ e. exactly .0 (sym is ∙ e), λ applies. is ∙ exactly .1 applies),
-  (λ e. lowest-none rows .0 (sym is ∙ e), λ none. is ∙ lowest-none rows .1 none),
-)
+by-rows rows answer is = (lowest-exactly rows is, lowest-none rows is)
 
 -- 9 before the rows, where row 9 is not among them
 nine-first : (wrong : Bool) (rows : List Bool) (answer : Answer) → getD rows 8 false ≡ false
@@ -94,7 +88,7 @@ nine-first : (wrong : Bool) (rows : List Bool) (answer : Answer) → getD rows 8
 nine-first true rows answer absent is = ((λ e. refl, λ e. is), λ passes. absurd (true≢false passes))
 nine-first false rows answer absent is = (
   (
-    λ e. absurd (false≢true (sym absent ∙ lowest-exactly rows 9 (omega arith) .0 (sym is ∙ e) .0)),
+    λ e. absurd (false≢true (sym absent ∙ lowest-exactly rows is 9 (omega arith) .0 e .0)),
     λ e. absurd (false≢true e),
   ),
   λ passes. by-rows rows answer is,
@@ -167,7 +161,7 @@ seal-answers-by-the-rows key iv ad text t out r left kept = (
       let n = length text + t in
       let clear : sealNumber key iv ad text t out ≡ 0 = sym (kept .answer) ∙ done in
       let allowed =
-      seal-allows (length key) (length iv) (length ad) (length text) t (length out) (ap (λ (m : ℕ). eqb m 0) clear) in
+      seal-allows (length key) (length iv) (length ad) (length text) t (length out) clear in
       let size = length-sealed e (enciphered-sixteen key) iv ad t text (allowed .0 .rest .long-tag) in
       front n (sealed e iv ad t text) out size (allowed .1) (kept .count ∙ when-done n 0 clear)
       (kept .bytes ∙ when-done _ out clear),
@@ -184,10 +178,7 @@ open-answers-by-the-rows key iv ad s t out r left kept = (
   λ done.
       let n = length s - t in
       let clear : openNumber key iv ad s t out ≡ 0 = sym (kept .answer) ∙ done in
-      let lengths =
-      parts-pass 0 (openLengthRows (length key) (length iv) (length ad) (length s) t (length out)) _
-      (ap (λ (m : ℕ). eqb m 0) clear) .0 in
-      let allowed = open-allows (length key) (length iv) (length ad) (length s) t (length out) lengths in
+      let allowed = open-allows (length key) (length iv) (length ad) (length s) t (length out) _ clear in
       let opens = opens-to-the-text key iv ad s t out kept done in
       let count : r .count ≡ length s - t = kept .count ∙ when-done n 0 clear in
       let size : length (opens .0) ≡ length s - t = sym (opens .3) ∙ count in
@@ -228,7 +219,7 @@ feed-answers-by-the-rows c piece out r left kept =
           (kept .answer ∙ ap (cond (idle c) 9) (feed-lowest total n (length out))),
       λ done.
           let clear : feedNumber c (length piece) (length out) ≡ 0 = sym (kept .answer) ∙ done in
-          let room = feed-fits c n (length out) (ap (λ (m : ℕ). eqb m 0) clear) .1 in
+          let room = feed-fits c n (length out) clear .1 in
           front n (pieceOf c piece) out (piece-size c piece) room (kept .count ∙ when-done n 0 clear)
           (kept .bytes ∙ when-done _ out clear),
       λ refused. (

@@ -1,13 +1,11 @@
 -- Demand 2. Sealing: lengths that are allowed pass every row, and the promise then gives the bytes. Opening is as `gcm` shows it,
 -- pieces and lists of calls as `runs` does.
-use mathlib.Core.Path.{_≡_, sym, ap, ap₂, _∙_}
-use mathlib.Core.Bool.{false, _||_, true≢false}
-use mathlib.Core.List.{List, [], _∷_}
+use mathlib.Core.Path.{_≡_, sym, ap, ap₂, _∙_, subst}
+use mathlib.Core.Bool.{false, _||_}
+use mathlib.Core.List.{List}
 use mathlib.Core.Logic.{_⊎_, inl, inr}
 use Prim.Native.Nat.{ℕ, _+_, _≤_}
-use native.Mathlib.Omega.{arith}
 use borrow.Author.Tests.{le-ltb}
-use lib.Dec.{eqb}
 use lib.ListN.{length, take, drop}
 use lib.Seq.{take-at}
 use Rattle.answer.proofs.DoneLaws.{when-done}
@@ -18,12 +16,11 @@ use Rattle.mode.proofs.ModeLaws.{length-sealed}
 use Rattle.rows.specs.Rows.{longestIv, longestAd, longestText, keyBad, ivBad, tagBad, lowest}
 use Rattle.gcm.specs.Promise.{sealNumber}
 use Rattle.gcm.proofs.Theorems.{refused-without-text, opens-to-the-text, opens-what-was-sealed}
-use Rattle.channel.specs.declared.Channel.{Channel}
-use Rattle.channel.specs.State.{idle, newChannel, beginOf}
-use Rattle.channel.proofs.MessageLaws.{neither, begun-holds}
-use Rattle.runs.specs.Run.{begin, after, run, feeds, textOf, Sent, messages}
-use Rattle.runs.proofs.CutLaws.{Kept, kept-then, after-keeps, run-keeps, finish-done, cut, feed-writes, so-far, pieces}
-use Rattle.runs.proofs.RunLaws.{Going, going, messages-crypted, finish-sealed}
+use Rattle.channel_state.specs.State.{newChannel}
+use Rattle.channel_state.proofs.StateLaws.{not-idle}
+use Rattle.runs.specs.Run.{after, run, textOf, Newest}
+use Rattle.runs.proofs.CutLaws.{finish-done, all-cut, feed-writes, so-far, pieces}
+use Rattle.runs.proofs.RunLaws.{open-message, messages-crypted, finish-sealed}
 use Rattle.claims.specs.Demand2.{
   Allowed,
   SealIsAesGcm,
@@ -35,7 +32,7 @@ use Rattle.claims.specs.Demand2.{
   BytesSoFarAreCiphertext,
   EveryMessageIsCiphertext,
   FinishSealsTheNewest,
-  NewestLong,
+  LongAs,
   TotalIsWhatWasFed,
   DemandTwo,
 }
@@ -105,20 +102,10 @@ runs-are-the-calls =
       abandoned = λ c r kept. kept .channel;
     }
 
-begin-keeps : (c : Channel) (n : ℕ) (ad : List ℕ) → Kept c (beginOf c n ad)
-unfolding after
-begin-keeps c n ad = after-keeps c (begin n ad)
-
 pub cut-anywhere-is-the-whole : CutAnywhereIsTheWhole
 cut-anywhere-is-the-whole key mark t opened calls n ad accepted cuts roomy fits =
-    let c = run (newChannel key mark t) calls in
-    let b = beginOf c n ad in
-    let kept = kept-then (run-keeps (newChannel key mark t) calls) (begin-keeps c n ad) in
-    let fed = cut b n ad [] cuts (begun-holds c n ad accepted) roomy (omega arith) in
-    let d = run b (feeds cuts) in (
-      finish-done key mark t opened d (kept-then kept (run-keeps b (feeds cuts))) n ad (textOf cuts) (fed .holds),
-      pieces key mark t opened calls n ad accepted cuts roomy fits,
-    )
+    let fed = all-cut (run (newChannel key mark t) calls) n ad accepted cuts roomy fits in
+    (finish-done _ n ad (textOf cuts) (fed .holds), pieces key mark t opened calls n ad accepted cuts roomy fits)
 
 pub bytes-so-far-are-ciphertext : BytesSoFarAreCiphertext
 bytes-so-far-are-ciphertext = so-far
@@ -130,19 +117,10 @@ pub finish-seals-the-newest : FinishSealsTheNewest
 finish-seals-the-newest = finish-sealed
 
 pub total-is-what-was-fed : TotalIsWhatWasFed
-unfolding idle
-total-is-what-was-fed key mark t calls opened = go (messages (newChannel key mark t) calls) (going key mark t calls)
-  where
-    c : Channel
-    c = run (newChannel key mark t) calls
-
-    active : eqb (run (newChannel key mark t) calls .message .phase) 0 ≡ false
-    active = neither (eqb (c .tag) 0) (eqb (c .message .phase) 0) opened .1
-
-    go : (sent : List Sent) → Going (newChannel key mark t) (run (newChannel key mark t) calls) sent
-        → NewestLong (run (newChannel key mark t) calls .message .text) sent
-    go [] g = absurd (true≢false (sym (g .newest) ∙ active))
-    go (m ∷ sent) g = g .newest active .text
+total-is-what-was-fed key mark t calls going-on =
+    let c = run (newChannel key mark t) calls in
+    let now = open-message key mark t calls (not-idle c going-on .1) in
+    subst (Newest (LongAs (c .message .text))) (sym (now .newest)) (now .holds .text)
 
 -- ---- the demand
 

@@ -8,8 +8,8 @@ use Rattle.aes.specs.Cipher.{enciphered}
 use Rattle.mode.specs.Mode.{hashKey, firstBlock}
 use Rattle.counter.specs.Counter.{keystream, crypted}
 use Rattle.counter.proofs.InputsLaws.{length-inputs}
-use Rattle.gcm.proofs.Theorems.{blocks-differ}
-use Rattle.channel.specs.State.{newChannel}
+use Rattle.gcm.proofs.Theorems.{message-blocks-differ}
+use Rattle.channel_state.specs.State.{newChannel}
 use Rattle.runs.specs.Run.{accepted, Judged}
 use Rattle.runs.proofs.RunLaws.{run-tells, begin-exactly, messages-crypted}
 use Rattle.runs.proofs.DifferLaws.{all-blocks-differ, no-zero-block, marks-apart}
@@ -54,7 +54,7 @@ different-marks-share-no-block key mark mark′ four four′ apart t t′ calls 
 pub blocks-of-one-message-differ : BlocksOfOneMessageDiffer
 blocks-of-one-message-differ key iv text fits i k less within =
     let size = length-inputs (firstBlock (hashKey (enciphered key)) iv) (blocksFor (length text)) in
-    blocks-differ key iv text fits i k less (omega arith)
+    message-blocks-differ key iv text fits i k less (omega arith)
 
 -- ---- the demand
 

@@ -7,7 +7,7 @@ use Rattle.hash_field.specs.Field.{timesA, sumOf, product}
 use Rattle.ledger.specs.Ledger.{windowOf, ledgerOf, markAt, withMark, shiftedBy, raisedTo, markedAt, acceptedBy, verdictOf}
 use Rattle.counter.specs.Counter.{counterBlock, stepped}
 use Rattle.mode.specs.Mode.{firstBlock}
-use Rattle.channel.specs.State.{busy, idle, newChannel, beginNumber, begunWith, beginOf, endNumber, endOf}
+use Rattle.channel_state.specs.State.{busy, idle, newChannel, beginNumber, begunWith, beginOf, endNumber, endOf}
 use Rattle.claims.specs.Numbers.{answersTo, EveryRowHolds}
 
 infixr 2 _and_

@@ -16,12 +16,12 @@ use Rattle.ledger.specs.Ledger.{Tells}
 use Rattle.rows.specs.Rows.{keyBad, tagBad, adBad, textBad, tooShort, Applies, sealRows, openRows}
 use Rattle.mode.specs.Mode.{genuine}
 use Rattle.gcm.specs.Promise.{SealPromise, OpenPromise}
-use Rattle.channel.specs.declared.Channel.{Channel}
+use Rattle.channel_state.specs.declared.Channel.{Channel}
 use Rattle.channel.specs.declared.Step.{Step}
 use Rattle.channel.specs.declared.Fed.{Fed}
 use Rattle.channel.specs.declared.Finished.{Finished}
 use Rattle.message.specs.Message.{noMessage}
-use Rattle.channel.specs.State.{deadChannel, withMessage, busy, idle, newChannel, begunWith}
+use Rattle.channel_state.specs.State.{deadChannel, withMessage, busy, idle, newChannel, begunWith}
 use Rattle.channel.specs.Promise.{OpeningPromise, BeginPromise, FeedPromise, FinishPromise, AbandonPromise}
 
 -- ---- words

@@ -2,7 +2,7 @@
 -- `enciphered key`, is defined in `aes/specs/`, the mode over it, `sealed`, in `mode/specs/`.
 use mathlib.Core.Path.{_≡_}
 use mathlib.Core.Bool.{false}
-use mathlib.Core.List.{List, [], _∷_, _++_}
+use mathlib.Core.List.{List, _++_}
 use mathlib.Core.Logic.{_↔_, _⊎_}
 use Prim.Native.Nat.{ℕ, _+_, _≤_}
 use lib.ListN.{length, take, drop}
@@ -14,11 +14,11 @@ use Rattle.counter.specs.Counter.{crypted}
 use Rattle.rows.specs.Rows.{longestIv, longestAd, longestText, lowest, openLengthRows}
 use Rattle.gcm.specs.Promise.{SealPromise, OpenPromise}
 use Rattle.pieces.specs.Piece.{ivOf}
-use Rattle.channel.specs.declared.Channel.{Channel}
+use Rattle.channel_state.specs.declared.Channel.{Channel}
 use Rattle.channel.specs.declared.Step.{Step}
 use Rattle.channel.specs.declared.Fed.{Fed}
 use Rattle.channel.specs.declared.Finished.{Finished}
-use Rattle.channel.specs.State.{idle, newChannel, openingNumber, beginNumber, beginOf, endNumber, tagOut}
+use Rattle.channel_state.specs.State.{idle, newChannel, openingNumber, beginNumber, beginOf, endNumber, tagOut}
 use Rattle.channel.specs.Promise.{BeginPromise, FeedPromise, FinishPromise, AbandonPromise}
 use Rattle.runs.specs.Run.{
   Call,
@@ -36,9 +36,10 @@ use Rattle.runs.specs.Run.{
   Roomy,
   Sent,
   messages,
+  Newest,
   Every,
   Crypted,
-  NewestSealed,
+  SealedWith,
 }
 
 -- ---- sealing
@@ -130,10 +131,9 @@ BytesSoFarAreCiphertext =
     written channel (feeds pieces)
     ≡ crypted (enciphered key) (firstBlock (hashKey (enciphered key)) (ivOf mark number)) (textOf pieces)
 
--- there is a newest message, and so many bytes of text were fed to it
-abbrev pub NewestLong : ℕ → List Sent → Type 0
-NewestLong total [] = ⊥
-NewestLong total (m ∷ sent) = total ≡ length (m .text)
+-- so many bytes of text were fed to a message
+abbrev pub LongAs : ℕ → Sent → Type 0
+LongAs total m = total ≡ length (m .text)
 
 -- Over any calls, refused ones among them, the bytes of each message are the ciphertext of its text so far, also where it was
 -- abandoned or is still open;
@@ -147,13 +147,13 @@ abbrev pub FinishSealsTheNewest : Type 0
 FinishSealsTheNewest =
     (key mark : List ℕ) (tag : ℕ) → openingNumber (length key) tag ≡ 0
     → (calls : List Call) → endNumber (run (newChannel key mark tag) calls) ≡ 0
-    → NewestSealed key mark tag (tagOut (run (newChannel key mark tag) calls)) (messages (newChannel key mark tag) calls)
+    → Newest (SealedWith key mark tag (tagOut (run (newChannel key mark tag) calls))) (messages (newChannel key mark tag) calls)
 
 -- and while a message is open, the channel's total is what was fed to it.
 abbrev pub TotalIsWhatWasFed : Type 0
 TotalIsWhatWasFed =
     (key mark : List ℕ) (tag : ℕ) (calls : List Call) → idle (run (newChannel key mark tag) calls) ≡ false
-    → NewestLong (run (newChannel key mark tag) calls .message .text) (messages (newChannel key mark tag) calls)
+    → Newest (LongAs (run (newChannel key mark tag) calls .message .text)) (messages (newChannel key mark tag) calls)
 
 -- ---- the demand
 

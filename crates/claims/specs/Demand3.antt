@@ -15,7 +15,7 @@ use Rattle.mode.specs.Mode.{hashKey, firstBlock}
 use Rattle.counter.specs.Counter.{inputs}
 use Rattle.rows.specs.Rows.{longestText, adBad}
 use Rattle.channel.specs.declared.Step.{Step}
-use Rattle.channel.specs.State.{busy, openingNumber, newChannel}
+use Rattle.channel_state.specs.State.{busy, openingNumber, newChannel}
 use Rattle.channel.specs.Promise.{BeginPromise}
 use Rattle.runs.specs.Run.{
   Call,

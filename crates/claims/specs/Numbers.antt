@@ -11,8 +11,8 @@ use Rattle.ghash.specs.Hash.{lengthBlock}
 use Rattle.mode.specs.Mode.{firstBlock}
 use Rattle.counter.specs.Counter.{stepped}
 use Rattle.pieces.specs.Piece.{ivOf}
-use Rattle.channel.specs.declared.Channel.{Channel}
-use Rattle.channel.specs.State.{newChannel, beginNumber, beginOf, endOf}
+use Rattle.channel_state.specs.declared.Channel.{Channel}
+use Rattle.channel_state.specs.State.{newChannel, beginNumber, beginOf, endOf}
 
 infix 2 _gives_
 -- a row: what a definition gives, and what the document says that it gives

@@ -2,12 +2,12 @@
 -- other bytes stay.
 use mathlib.Core.Path.{_≡_, refl, sym, ap, _∙_}
 use mathlib.Core.List.{List, [], _∷_}
-use Prim.Native.Nat.{ℕ, zero, suc, _+_, _*_, _/_, _%_, _^_, _<_, _≤_}
+use Prim.Native.Nat.{ℕ, zero, suc, _+_, _%_, _^_, _<_, _≤_}
 use native.Mathlib.Nat.{mod-eq-of-lt}
 use native.Mathlib.Omega.{arith}
 use lib.ListN.{length, getD, drop, List·getD-append}
-use lib.Pow.{shr-lt, shr-shr, split}
 use Rattle.octets.specs.Word.{wordAt, bytesOf}
+use Rattle.octets.proofs.BlockLaws.{word-bytes}
 use Rattle.octets.proofs.ElementsLaws.{elements, elements-at, length-elements}
 use Rattle.counter.specs.Counter.{counterBlock, stepped, inputs}
 
@@ -29,18 +29,10 @@ stepped-keeps j i h =
     ∙ elements-at 12 j 0 i h
     ∙ ap (λ m. getD j m 0) (omega arith)
 
--- the word that its own four bytes make
-word-of-bytes : (w : ℕ) → w < 2 ^ 32 → wordAt (bytesOf w) 0 ≡ w
-word-of-bytes w h =
-    let second : w / 2 ^ 16 * 256 + w / 2 ^ 8 % 256 ≡ w / 2 ^ 8 = rw (shr-shr w 8 8) at (split (w / 2 ^ 8) 8) in
-    let third : w / 2 ^ 24 * 256 + w / 2 ^ 16 % 256 ≡ w / 2 ^ 16 = rw (shr-shr w 16 8) at (split (w / 2 ^ 16) 8) in
-    let fourth : w / 2 ^ 24 % 256 ≡ w / 2 ^ 24 = mod-eq-of-lt (shr-lt {n = w} 8 24 h) in
-    rw (fourth, third, second) (split w 8)
-
 -- the last four bytes are one number, which counts on and wraps
 pub stepped-word : (j : List ℕ) → wordAt (stepped j) 12 ≡ (wordAt j 12 + 1) % 2 ^ 32
 unfolding stepped counterBlock
-stepped-word j = word-of-bytes ((wordAt j 12 + 1) % 2 ^ 32) (omega arith)
+stepped-word j = word-bytes ((wordAt j 12 + 1) % 2 ^ 32) ∙ mod-eq-of-lt (omega arith)
 
 count-on : (w k : ℕ) → ((w + 1) % 2 ^ 32 + k) % 2 ^ 32 ≡ (w + suc k) % 2 ^ 32
 count-on w k = omega arith

@@ -7,19 +7,19 @@ use Rattle.answer.specs.declared.Outcome.{Outcome}
 use Rattle.answer.specs.Number.{numberOf}
 use Rattle.gcm.specs.Promise.{SealPromise, OpenPromise}
 
--- an outcome, told as a number that is returned and a count that is stored
-pub record Told (outcome : Outcome) (number count : ℕ) : Type 0 where
+-- an outcome, reported as a number that is returned and a count that is stored
+pub record Reported (outcome : Outcome) (number count : ℕ) : Type 0 where
   pub answer : number ≡ numberOf (outcome .answer)
   pub written : count ≡ outcome .count
 
--- `gcm::seal` keeps its promise with an outcome, and that outcome is told
+-- `gcm::seal` keeps its promise with an outcome, and that outcome is reported
 pub record SealCall (key iv ad text : List ℕ) (t : ℕ) (out : List ℕ) (number count : ℕ) (left : List ℕ) : Type 0 where
   pub outcome : Outcome
   pub promise : SealPromise key iv ad text t out outcome left
-  pub told : Told outcome number count
+  pub reported : Reported outcome number count
 
--- `gcm::open` keeps its promise with an outcome, and that outcome is told
+-- `gcm::open` keeps its promise with an outcome, and that outcome is reported
 pub record OpenCall (key iv ad sealed : List ℕ) (t : ℕ) (out : List ℕ) (number count : ℕ) (left : List ℕ) : Type 0 where
   pub outcome : Outcome
   pub promise : OpenPromise key iv ad sealed t out outcome left
-  pub told : Told outcome number count
+  pub reported : Reported outcome number count

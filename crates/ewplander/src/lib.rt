@@ -1,12 +1,7 @@
 // Ewplander for C and Rust: each call is the one by value, with the answer as document 01's number.
 use answer::number;
-use channel::Channel;
-use told::abandoned;
-use told::begun;
-use told::fed;
-use told::finished;
-use told::opened;
-ghost use Rattle.told.specs.Call.{ChannelCall, BeginCall, FeedCall, FinishCall, AbandonCall};
+use channel_state::Channel;
+ghost use Rattle.told.specs.Call.{OpeningCall, BeginCall, FeedCall, FinishCall, AbandonCall};
 ghost use Rattle.ewplander.specs.Call.{SealCall, OpenCall};
 
 // Seals as `gcm::seal` does, answers its number, and stores how many bytes were written.
@@ -22,9 +17,9 @@ pub extern "C" fn ewplander_seal(
 ) -> u32
     ensures { λ r. ⌜ SealCall (now (key .entry)) (now (iv .entry)) (now (ad .entry)) (now (text .entry)) «tag_len» (now (out .entry)) r (now (count .exit)) (now (out .exit)) ⌝ }
 {
-    let outcome = gcm::seal(key, iv, ad, text, tag_len, out);
-    *count = outcome.count;
-    let answer = outcome.answer;
+    let sealed = gcm::seal(key, iv, ad, text, tag_len, out);
+    *count = sealed.count;
+    let answer = sealed.answer;
     number(answer) as u32
 }
 
@@ -41,9 +36,9 @@ pub extern "C" fn ewplander_open(
 ) -> u32
     ensures { λ r. ⌜ OpenCall (now (key .entry)) (now (iv .entry)) (now (ad .entry)) (now (sealed .entry)) «tag_len» (now (out .entry)) r (now (count .exit)) (now (out .exit)) ⌝ }
 {
-    let outcome = gcm::open(key, iv, ad, sealed, tag_len, out);
-    *count = outcome.count;
-    let answer = outcome.answer;
+    let opened = gcm::open(key, iv, ad, sealed, tag_len, out);
+    *count = opened.count;
+    let answer = opened.answer;
     number(answer) as u32
 }
 
@@ -55,11 +50,11 @@ pub extern "C" fn ewplander_channel_open(
     mark: &[u8; 4],
     tag_len: usize,
 ) -> u32
-    ensures { λ r. ⌜ ChannelCall (now (key .entry)) (now (mark .entry)) «tag_len» r (now (channel .exit)) ⌝ }
+    ensures { λ r. ⌜ OpeningCall (now (key .entry)) (now (mark .entry)) «tag_len» r (now (channel .exit)) ⌝ }
 {
-    let r = opened(key, mark, tag_len);
-    *channel = r.channel;
-    r.number
+    let opened = told::opened(key, mark, tag_len);
+    *channel = opened.channel;
+    opened.number
 }
 
 // Begins a message as `channel::begin` does. A refusal leaves the channel as it is.
@@ -67,9 +62,9 @@ pub extern "C" fn ewplander_channel_open(
 pub extern "C" fn ewplander_channel_begin(channel: &mut Channel, number: u64, ad: &[u8]) -> u32
     ensures { λ r. ⌜ BeginCall (now (channel .entry)) number (now (ad .entry)) r (now (channel .exit)) ⌝ }
 {
-    let r = begun(*channel, number, ad);
-    *channel = r.channel;
-    r.number
+    let begun = told::begun(*channel, number, ad);
+    *channel = begun.channel;
+    begun.number
 }
 
 // Feeds a piece as `channel::feed` does, and stores how many bytes were written. A refusal leaves channel and output as they are.
@@ -82,9 +77,9 @@ pub extern "C" fn ewplander_channel_feed(
 ) -> u32
     ensures { λ r. ⌜ FeedCall (now (channel .entry)) (now (piece .entry)) (now (out .entry)) r (now (channel .exit)) (now (out .exit)) (now (count .exit)) ⌝ }
 {
-    let r = fed(*channel, piece, out, count);
-    *channel = r.channel;
-    r.number
+    let fed = told::fed(*channel, piece, out, count);
+    *channel = fed.channel;
+    fed.number
 }
 
 // Finishes the message as `channel::finish` does, and stores its tag. A refusal leaves the channel as it is and stores zeros.
@@ -92,9 +87,9 @@ pub extern "C" fn ewplander_channel_feed(
 pub extern "C" fn ewplander_channel_finish(channel: &mut Channel, tag: &mut [u8; 16]) -> u32
     ensures { λ r. ⌜ FinishCall (now (channel .entry)) r (now (channel .exit)) (now (tag .exit)) ⌝ }
 {
-    let r = finished(*channel, tag);
-    *channel = r.channel;
-    r.number
+    let finished = told::finished(*channel, tag);
+    *channel = finished.channel;
+    finished.number
 }
 
 // Abandons the message as `channel::abandon` does. A refusal leaves the channel as it is.
@@ -102,7 +97,7 @@ pub extern "C" fn ewplander_channel_finish(channel: &mut Channel, tag: &mut [u8;
 pub extern "C" fn ewplander_channel_abandon(channel: &mut Channel) -> u32
     ensures { λ r. ⌜ AbandonCall (now (channel .entry)) r (now (channel .exit)) ⌝ }
 {
-    let r = abandoned(*channel);
-    *channel = r.channel;
-    r.number
+    let abandoned = told::abandoned(*channel);
+    *channel = abandoned.channel;
+    abandoned.number
 }

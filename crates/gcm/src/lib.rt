@@ -5,9 +5,9 @@ use answer::is_done;
 use counter::crypt;
 use mode::first_block;
 use mode::hash_key;
-use mode::put_tag;
 use mode::same_tag;
 use mode::tag;
+use octets::put_bytes;
 use rows::open_answer;
 use rows::seal_answer;
 use schedule::expand;
@@ -125,7 +125,7 @@ fn seal_by(
     crypt(out, table, words, rounds, j, text);
     let n = text.len();
     let whole = tag(table, words, rounds, h, j, ad, &out[..n]);
-    put_tag(out, n, whole, tag_len);
+    put_bytes(out, n, whole, tag_len);
 }
 
 // Whether the tag of sealed bytes whose lengths pass is theirs; `out` is written only if it is.

@@ -1,7 +1,6 @@
 -- An element and its block tell each other: a number is its upper part and its 64 low bits.
 use mathlib.Core.Path.{_≡_, _∙_, ap, ap₂, sym}
 use Prim.Native.Nat.{ℕ, _^_, _<_}
-use lib.Arith.{digits-lt}
 use lib.Pow.{split, high, low}
 use Rattle.hash_field.specs.declared.Element.{Element}
 use Rattle.hash_field.specs.Element.{valueOf, elementOf}
@@ -15,11 +14,6 @@ value-element n = split n 64
 pub element-value : (e : Element) → e .low < 2 ^ 64 → elementOf (valueOf e) ≡ e
 unfolding valueOf elementOf
 element-value e below = ap₂ (λ (h l : ℕ). record { high = h; low = l }) (high (e .high) 64 below) (low (e .high) 64 below)
-
--- An element's number is a block.
-pub value-lt : (e : Element) → e .high < 2 ^ 64 → e .low < 2 ^ 64 → valueOf e < 2 ^ 128
-unfolding valueOf
-value-lt e upper lower = digits-lt {m = 2 ^ 64} {c = 2 ^ 64} upper lower
 
 -- an element is that of its value
 pub element-is : (e : Element) {x : ℕ} → e .low < 2 ^ 64 → valueOf e ≡ x → e ≡ elementOf x

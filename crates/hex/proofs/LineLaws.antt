@@ -12,7 +12,7 @@ use lib.Dec.{leb, ltb, eqb}
 use lib.ListN.{length, take, set, length-append}
 use lib.Seq.{take-suc-set}
 use Rattle.hex.specs.Hex.{digitValue, decoded, allDigits, longestField, goodLine}
-use Rattle.hex.specs.Line.{freshLine, spoiledLine, fitting, pending, lineOf, taken, fed, stored, endsGood, Holds, Counted}
+use Rattle.hex.specs.Line.{freshLine, spoiledLine, fitting, pending, lineOf, taken, fed, stored, endsGood, InFront, Counted}
 use Rattle.hex.specs.declared.line.Line.{Line}
 use Rattle.octets.proofs.BytesLaws.{both-true}
 
@@ -103,12 +103,6 @@ decoded-second (h ∷ []) b odd = refl
 decoded-second (h ∷ l ∷ s) b odd =
     ap {B = List ℕ} (λ r. (digitValue h * 16 + digitValue l) ∷ r) (decoded-second s b (omega (arith, two-less (length s))))
 
-pub length-decoded : (s : List ℕ) → length (decoded s) ≡ length s / 2
-unfolding decoded
-length-decoded [] = refl
-length-decoded (h ∷ []) = refl
-length-decoded (h ∷ l ∷ s) = rw (length-decoded s) (omega arith)
-
 -- what is kept of a line
 
 kept : List ℕ → Line
@@ -148,14 +142,14 @@ line-digits : (s : List ℕ) → fitting s ≡ true → lineOf s .digits ≡ len
 unfolding kept
 line-digits s fits = ap (λ l. l .digits) (line-fits s fits)
 
+true-unless : (p : Bool) → (p ≡ false → ⊥) → p ≡ true
+true-unless true never = refl
+true-unless false never = absurd (never refl)
+
 -- a line that fits did so before its last byte
 fitted : (s : List ℕ) (b : ℕ) → fitting (s ++ (b ∷ [])) ≡ true → fitting s ≡ true
 unfolding taken lineOf
-fitted s b fits = go (fitting s) refl
-  where
-    go : (p : Bool) → fitting s ≡ p → fitting s ≡ true
-    go true e = e
-    go false e = absurd (false≢true (rw (fitting-more s b, e) at fits))
+fitted s b fits = true-unless (fitting s) (λ e. false≢true (rw (fitting-more s b, e) at fits))
 
 kept-more : (s : List ℕ) (b : ℕ) → fitting (s ++ (b ∷ [])) ≡ true → kept (s ++ (b ∷ [])) ≡ fed (lineOf s) b
 unfolding kept fed
@@ -188,16 +182,16 @@ good-line s = go (allDigits s) refl (leb (length s) 8192) refl
     go true e false f = rw (e, f) (sym (too-long (length s) (leb-false (length s) 8192 f)))
     go false e q f = rw e
 
-holds-first : (s bytes : List ℕ) (b : ℕ) → length s % 2 ≡ 0 → take (length s / 2) bytes ≡ decoded s
+in-front-first : (s bytes : List ℕ) (b : ℕ) → length s % 2 ≡ 0 → take (length s / 2) bytes ≡ decoded s
     → take (length (s ++ (b ∷ [])) / 2) bytes ≡ decoded (s ++ (b ∷ []))
-holds-first s bytes b even held =
+in-front-first s bytes b even held =
     let same-count : suc (length s) / 2 ≡ length s / 2 = omega arith in
     rw (length-more s b, same-count, decoded-first s b even) held
 
-holds-second : (s bytes : List ℕ) (b : ℕ) → length s % 2 ≡ 1 → length s / 2 < length bytes → pending s < 16
+in-front-second : (s bytes : List ℕ) (b : ℕ) → length s % 2 ≡ 1 → length s / 2 < length bytes → pending s < 16
     → take (length s / 2) bytes ≡ decoded s
     → take (length (s ++ (b ∷ [])) / 2) (set bytes (length s / 2) (pending s % 16 * 16 + digitValue b)) ≡ decoded (s ++ (b ∷ []))
-holds-second s bytes b odd room small held =
+in-front-second s bytes b odd room small held =
     let one-more : suc (length s) / 2 ≡ suc (length s / 2) = omega arith in
     rw (
       length-more s b,
@@ -216,9 +210,9 @@ fitting-short : (s : List ℕ) → fitting s ≡ true → length s ≤ longestFi
 unfolding fitting
 fitting-short s fits = leb-true (length s) 8192 (both-true (allDigits s) _ fits .1)
 
-pub holds-more : (s bytes : List ℕ) (b : ℕ) → longestField ≤ length bytes → Holds s bytes
-    → Holds (s ++ (b ∷ [])) (stored (lineOf s) b bytes)
-holds-more s bytes b room held fits =
+pub in-front-more : (s bytes : List ℕ) (b : ℕ) → longestField ≤ length bytes → InFront s bytes
+    → InFront (s ++ (b ∷ [])) (stored (lineOf s) b bytes)
+in-front-more s bytes b room held fits =
     let before = fitted s b fits in
     let some = sym (fitting-more s b) ∙ fits in
     let few = rw (length-more s b) at (fitting-short (s ++ (b ∷ [])) fits) in
@@ -229,25 +223,21 @@ holds-more s bytes b room held fits =
         → take (length (s ++ (b ∷ [])) / 2) (stored (lineOf s) b bytes) ≡ decoded (s ++ (b ∷ []))
     go before some count few true e =
         let even : length s % 2 ≡ 0 = eqb-true (length s % 2) 0 e in
-        rw (← (stored-first (lineOf s) b bytes some (rw count even))) (holds-first s bytes b even (held before))
+        rw (← (stored-first (lineOf s) b bytes some (rw count even))) (in-front-first s bytes b even (held before))
     go before some count few false e =
         let odd : length s % 2 ≡ 1 = omega (arith, eqb-false (length s % 2) 0 e) in
         rw
         (← (stored-second (lineOf s) b bytes some (rw count odd)), count, line-half s before)
-        (holds-second s bytes b odd (omega arith) (pending-small s (fitting-digits s before)) (held before))
+        (in-front-second s bytes b odd (omega arith) (pending-small s (fitting-digits s before)) (held before))
 
-pub holds-none : (bytes : List ℕ) → Holds [] bytes
+pub in-front-none : (bytes : List ℕ) → InFront [] bytes
 unfolding decoded
-holds-none bytes fits = refl
+in-front-none bytes fits = refl
 
 -- a good line is one that nothing spoils
 good-fits : (s : List ℕ) → goodLine s ≡ true → fitting s ≡ true
 unfolding lineOf endsGood
-good-fits s good = go (fitting s) refl
-  where
-    go : (p : Bool) → fitting s ≡ p → fitting s ≡ true
-    go true e = e
-    go false e = absurd (false≢true (rw (← (good-line s), e) at good))
+good-fits s good = true-unless (fitting s) (λ e. false≢true (rw (← (good-line s), e) at good))
 
 digits-few : (s : List ℕ) → lineOf s .digits ≤ longestField * 2
 unfolding lineOf
@@ -258,7 +248,7 @@ digits-few s = go (fitting s) refl
     go false e = rw e (omega arith)
 
 -- the line ended: its bytes are counted
-pub counted : (s bytes : List ℕ) → Holds s bytes → Counted (lineOf s .digits / 2) bytes s
+pub counted : (s bytes : List ℕ) → InFront s bytes → Counted (lineOf s .digits / 2) bytes s
 counted s bytes held =
     record {
       within = omega (arith, digits-few s);

@@ -57,8 +57,8 @@ unfoldable pub endsGood : Line → Bool
 endsGood line = not (line .spoiled) && eqb (line .digits % 2) 0
 
 -- the bytes that the digits of a line begun make stand in front of the buffer, if nothing spoils the line
-abbrev pub Holds : List ℕ → List ℕ → Type 0
-Holds line bytes = fitting line ≡ true → take (length line / 2) bytes ≡ decoded line
+abbrev pub InFront : List ℕ → List ℕ → Type 0
+InFront line bytes = fitting line ≡ true → take (length line / 2) bytes ≡ decoded line
 
 -- the bytes that an ended line stands for are so many in front of the buffer, if it is good
 pub record Counted (count : ℕ) (bytes line : List ℕ) : Type 0 where

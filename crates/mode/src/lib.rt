@@ -9,9 +9,8 @@ use ghash::length_block;
 use hash_field::Element;
 use hash_field::plus;
 ghost use mathlib.Core.Path.{_≡_};
-ghost use Prim.Native.Nat.{_+_, _^_, _≤_, _<_};
+ghost use Prim.Native.Nat.{_^_, _≤_, _<_};
 ghost use lib.ListN.{length, take};
-ghost use lib.Seq.{paste};
 ghost use Rattle.octets.specs.Block.{blockBytes};
 ghost use Rattle.octets.specs.Bytes.{same};
 ghost use Rattle.sbox.specs.Substitution.{Substitutes};
@@ -83,16 +82,4 @@ pub fn same_tag(tag: [u8; 16], given: &[u8]) -> bool
         at += 1;
     }
     differing == 0
-}
-
-// The tag's first n bytes, written to `out` from index `at` on.
-pub fn put_tag(out: &mut [u8], at: usize, tag: [u8; 16], n: usize)
-    requires { ⌜ (length tag ≡ 16) × (n ≤ 16) × (at + n ≤ length (now out)) ⌝ }
-    ensures { λ _. ⌜ now (out .exit) ≡ paste (now (out .entry)) at tag n ⌝ }
-{
-    let mut i = 0;
-    while i < n {
-        out[at + i] = tag[i];
-        i += 1;
-    }
 }

@@ -101,16 +101,3 @@ word-bytes w =
     ap (λ (a : ℕ). (a * 256 + w / 2 ^ 8 % 256) * 256 + w % 256) (byte-more w 8 16)
     ∙ ap (λ (a : ℕ). a * 256 + w % 256) (byte-more w 16 8)
     ∙ sym (mod-pow-add w 24 8)
-
--- The sixteen bytes of a number make its 128 low bits.
-pub number-bytes : (n : ℕ) → numberAt (blockBytes n) 0 ≡ n % 2 ^ 128
-unfolding blockBytes
-number-bytes n =
-    let upper = n / 2 ^ 64 in
-    ap₂ (λ (a b : ℕ). a * 2 ^ 64 + b)
-    (ap₂ (λ (a b : ℕ). a * 2 ^ 32 + b)
-    (word-bytes (n / 2 ^ 96) ∙ ap (λ (a : ℕ). a % 2 ^ 32) (sym (shr-shr n 64 32)))
-    (word-bytes upper)
-    ∙ sym (mod-pow-add upper 32 32))
-    (ap₂ (λ (a b : ℕ). a * 2 ^ 32 + b) (word-bytes (n / 2 ^ 32)) (word-bytes n) ∙ sym (mod-pow-add n 32 32))
-    ∙ sym (mod-pow-add n 64 64)

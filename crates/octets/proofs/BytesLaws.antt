@@ -1,6 +1,6 @@
 -- Lists of bytes: how long their xor is, how it splits, that it undoes itself, and that the test `same` is equality. Each law
 -- is an induction on its lists.
-use mathlib.Core.Path.{_≡_, refl, sym, ap, ap₂, _∙_, subst}
+use mathlib.Core.Path.{_≡_, refl, sym, ap, ap₂, _∙_}
 use mathlib.Core.Bool.{Bool, true, false, _&&_, false≢true, and-true, and-assoc}
 use mathlib.Core.List.{List, [], _∷_, _++_, append-nil}
 use Prim.Native.Nat.{ℕ, zero, suc, _+_, _<_, _≤_, min}
@@ -76,9 +76,6 @@ pub same-refl : (s : List ℕ) → same s s ≡ true
 unfolding same
 same-refl [] = refl
 same-refl (a ∷ s) = rw (eq-eqb a a refl, same-refl s)
-
-pub same-false : (s t : List ℕ) → same s t ≡ false → s ≡ t → ⊥
-same-false s t e q = false≢true (sym e ∙ subst (λ u. same s u ≡ true) q (same-refl s))
 
 -- a byte of the xor
 pub getD-xored : (s k : List ℕ) (i : ℕ) → i < length s → i < length k → getD (xored s k) i 0 ≡ bitXor (getD s i 0) (getD k i 0)

@@ -2,6 +2,7 @@
 ghost use mathlib.Core.Path.{_≡_};
 ghost use Prim.Native.Nat.{_+_, _*_, _^_, _≤_, min};
 ghost use lib.ListN.{length};
+ghost use lib.Seq.{paste};
 ghost use Rattle.octets.specs.Block.{longAt, blockFrom};
 ghost use Rattle.octets.specs.Word.{wordOf, wordAt, bytesOf};
 
@@ -76,4 +77,16 @@ pub fn least(a: usize, b: usize) -> usize
     ensures { λ r. ⌜ r ≡ min a b ⌝ }
 {
     if a < b { a } else { b }
+}
+
+// The block's first n bytes, written to `out` from index `at` on.
+pub fn put_bytes(out: &mut [u8], at: usize, block: [u8; 16], n: usize)
+    requires { ⌜ (length block ≡ 16) × (n ≤ 16) × (at + n ≤ length (now out)) ⌝ }
+    ensures { λ _. ⌜ now (out .exit) ≡ paste (now (out .entry)) at block n ⌝ }
+{
+    let mut i = 0;
+    while i < n {
+        out[at + i] = block[i];
+        i += 1;
+    }
 }

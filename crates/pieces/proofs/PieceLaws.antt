@@ -1,7 +1,7 @@
 -- A text in pieces: the keystream of n + m blocks is that of n, and then that of m from the counter n further on, so a text cut
 -- anywhere is crypted piece by piece.
 use mathlib.Core.Path.{_≡_, refl, sym, ap, ap₂, _∙_}
-use mathlib.Core.List.{List, [], _++_, append-assoc}
+use mathlib.Core.List.{List, _++_, append-assoc}
 use Prim.Native.Nat.{ℕ, zero, suc, _+_, _-_, _/_, _%_, _^_, _≤_, _<_}
 use native.Mathlib.Omega.{arith}
 use lib.ListN.{length, take, drop, length-append, length-drop}
@@ -16,7 +16,7 @@ use Rattle.counter.proofs.CounterLaws.{keystream-more, length-keystream}
 use Rattle.pieces.specs.Piece.{ivOf, counterAt, cryptedAt}
 
 -- the step is to the next counter
-pub counter-step : (iv : List ℕ) (k : ℕ) → stepped (counterAt iv k) ≡ counterAt iv (k + 1)
+counter-step : (iv : List ℕ) (k : ℕ) → stepped (counterAt iv k) ≡ counterAt iv (k + 1)
 unfolding counterAt counterBlock stepped
 counter-step iv k =
     let next : ((k + 1) % 2 ^ 32 % 2 ^ 32 + 1) % 2 ^ 32 ≡ (k + 1 + 1) % 2 ^ 32 = omega arith in
@@ -27,10 +27,6 @@ pub first-counter : (h : ℕ) (mark : List ℕ) (n : ℕ) → firstBlock h (ivOf
 unfolding firstBlock counterAt
 first-counter h mark n = refl
 
-pub cryptedAt-nil : (e : List ℕ → List ℕ) (iv : List ℕ) (before : ℕ) → cryptedAt e iv before [] ≡ []
-unfolding cryptedAt xored
-cryptedAt-nil e iv before = refl
-
 -- a piece that begins a block
 pub cryptedAt-whole : (e : List ℕ → List ℕ) (iv : List ℕ) (before : ℕ) (piece : List ℕ) → before % 16 ≡ 0
     → cryptedAt e iv before piece ≡ crypted e (counterAt iv (before / 16)) piece
@@ -38,9 +34,6 @@ unfolding cryptedAt crypted
 cryptedAt-whole e iv before piece h =
     let same : before % 16 + length piece ≡ length piece = omega arith in
     ap₂ (λ (r n : ℕ). xored piece (drop r (keystream e (counterAt iv (before / 16)) (blocksFor n)))) h same
-
-pub cryptedAt-start : (e : List ℕ → List ℕ) (iv piece : List ℕ) → cryptedAt e iv 0 piece ≡ crypted e (counterAt iv 0) piece
-cryptedAt-start e iv piece = cryptedAt-whole e iv 0 piece refl
 
 counter-more : (e : List ℕ → List ℕ) (iv : List ℕ) (k n : ℕ)
     → keystream e (counterAt iv k) (suc n) ≡ e (counterAt iv (k + 1)) ++ keystream e (counterAt iv (k + 1)) n

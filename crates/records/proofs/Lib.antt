@@ -2,6 +2,5 @@ pub mod AnswerLaws
 pub mod ChunkLaws
 pub mod ScanLaws
 pub mod ServeLaws
-pub mod SplitLaws
 pub mod TookLaws
 pub mod TurnLaws

@@ -1,9 +1,9 @@
--- What the machine tells is what is to be written: `bad` or the answer to the bytes in the buffers for a whole record, `cut` for
+-- What the machine remembers is what is to be written: `bad` or the answer to the bytes in the buffers for a whole record, `cut` for
 -- what remains at the end, and nothing while a record is not whole.
 use mathlib.Core.Path.{_≡_, refl, sym, ap, _∙_}
 use mathlib.Core.Bool.{Bool, true, false, not, _&&_, _||_, cond}
 use mathlib.Core.List.{List, [], _∷_}
-use Prim.Native.Nat.{ℕ, _≤_, _<_, zero-le}
+use Prim.Native.Nat.{ℕ, _≤_, zero-le}
 use native.Mathlib.Omega.{arith}
 use lib.Dec.{eqb, eqb·suc-zero}
 use lib.ListN.{length, take, drop}
@@ -14,14 +14,14 @@ use Rattle.records.specs.Reading.{State, inKey, inIv, inAd, inText, Next
 use Rattle.records.specs.Reading.{scanned}
 use Rattle.records.specs.Answers.{Wrote}
 use Rattle.records.specs.Kept.{freshMachine, remaining, lastLine}
-use Rattle.records.specs.Told.{Tells, Scanned, bytesFrom, Served}
+use Rattle.records.specs.Remembered.{Remembers, Scanned, bytesFrom, Served}
 use Rattle.records.specs.declared.machine.Machine.{Machine}
 use Rattle.records.specs.declared.machine.Stop.{Stop}
 use Rattle.records.proofs.AnswerLaws.{wrote-nothing}
 use Rattle.records.proofs.ChunkLaws.{after-taken, written-taken}
 use Rattle.octets.proofs.BytesLaws.{both-true}
 use Rattle.hex.proofs.LineLaws.{line-fresh}
-use Rattle.records.proofs.ScanLaws.{open-lines, tells-start, scanned-bytes}
+use Rattle.records.proofs.ScanLaws.{open-lines, remembers-start, scanned-bytes}
 
 -- a line of which anything was read shows it
 cut-line : (s : List ℕ) → cutOf s ≡ cond (lineOf s .spoiled || not (eqb (lineOf s .digits) 0)) cutLine []
@@ -35,99 +35,85 @@ cut-line (b ∷ s) = go (fitting (b ∷ s)) refl
     go false e = rw e
 
 module _ (answer : Answering) {m : Machine} {key iv ad text : List ℕ} (k i a t : List ℕ)
-    (told : Tells m key iv ad text (whole k i a t)) where
+    (known : Remembers m key iv ad text (whole k i a t)) where
   pub answers-bad : m .good ≡ false → answerTo answer k i a t ≡ badLine
   unfolding answerTo
-  answers-bad bad = rw (sym (told .reads .0 .good) ∙ bad)
+  answers-bad bad = rw (sym (known .reads .0 .good) ∙ bad)
 
   pub answers-good : m .good ≡ true
       → answerTo answer k i a t ≡ answer (take (m .key) key) (take (m .iv) iv) (take (m .ad) ad) (take (m .text) text)
   unfolding answerTo
   answers-good good =
-      let all = sym (told .reads .0 .good) ∙ good in
+      let all = sym (known .reads .0 .good) ∙ good in
       let three = both-true (goodLine k && goodLine i && goodLine a) (goodLine t) all in
       let two = both-true (goodLine k && goodLine i) (goodLine a) (three .0) in
       let one = both-true (goodLine k) (goodLine i) (two .0) in
       rw (
         all,
-        told .reads .1 .front (one .0),
-        told .reads .2 .front (one .1),
-        told .reads .3 .front (two .1),
-        told .reads .4 .front (three .1),
+        known .reads .1 .front (one .0),
+        known .reads .2 .front (one .1),
+        known .reads .3 .front (two .1),
+        known .reads .4 .front (three .1),
       )
 
 -- the end of the input
 
-pub ending-told : {m : Machine} {key iv ad text : List ℕ} (state : State) → Tells m key iv ad text (more state)
+pub ending-remembered : {m : Machine} {key iv ad text : List ℕ} (state : State) → Remembers m key iv ad text (more state)
     → ending state ≡ lastLine m
 unfolding ending remaining
-ending-told (inKey l) told = rw (told .reads .0 .ended, told .reads .0 .begins) (cut-line l)
-ending-told (inIv k l) told = rw (told .reads .0 .ended)
-ending-told (inAd k i l) told = rw (told .reads .0 .ended)
-ending-told (inText k i a l) told = rw (told .reads .0 .ended)
+ending-remembered (inKey l) known = rw (known .reads .0 .ended, known .reads .0 .begins) (cut-line l)
+ending-remembered (inIv k l) known = rw (known .reads .0 .ended)
+ending-remembered (inAd k i l) known = rw (known .reads .0 .ended)
+ending-remembered (inText k i a l) known = rw (known .reads .0 .ended)
 
 -- a part of a chunk, scanned and answered
 
 module _ (answer : Answering) {m : Machine} {key iv ad text chunk : List ℕ} {at : ℕ} {r : Stop} {key′ iv′ ad′ text′ : List ℕ}
     (scan : Scanned m key iv ad text chunk at r key′ iv′ ad′ text′) (out : List ℕ) where
-  after-scan : (state : State) → Tells m key iv ad text (more state)
+  after-scan : (state : State) → Remembers m key iv ad text (more state)
       → after state (bytesFrom chunk at (r .at)) ≡ onward (scanned state (drop at chunk))
-  after-scan state told = ap (after state) (scanned-bytes scan state told) ∙ after-taken state (drop at chunk)
+  after-scan state known = ap (after state) (scanned-bytes scan state known) ∙ after-taken state (drop at chunk)
 
-  written-scan : (state : State) → Tells m key iv ad text (more state)
+  written-scan : (state : State) → Remembers m key iv ad text (more state)
       → written answer state (bytesFrom chunk at (r .at)) ≡ said answer (scanned state (drop at chunk))
-  written-scan state told = ap (written answer state) (scanned-bytes scan state told) ∙ written-taken answer state (drop at chunk)
+  written-scan state known = ap (written answer state) (scanned-bytes scan state known) ∙ written-taken answer state (drop at chunk)
+
+  -- what is written and remembered is what is so behind the scan, whatever was read
+  served : {m″ : Machine} {out′ : List ℕ} {count : ℕ} → count ≤ length out′
+      → ((n : Next) → Remembers (r .machine) key′ iv′ ad′ text′ n
+      → Remembers m″ key′ iv′ ad′ text′ (more (onward n)) × Wrote (said answer n) out out′ count)
+      → Served answer m key iv ad text chunk at out m″ key′ iv′ ad′ text′ (r .at) out′ count
+  served fits read =
+      record {
+        remembers = λ state known. rw (after-scan state known) (read _ (scan .remembers state known) .0);
+        writes = λ state known. rw (written-scan state known) (read _ (scan .remembers state known) .1);
+        fits = fits;
+        reached = scan .reached;
+        within = scan .within;
+      }
 
   -- no record is whole yet
   pub served-none : (r .machine .lines ≡ 4 → ⊥)
       → Served answer m key iv ad text chunk at out (r .machine) key′ iv′ ad′ text′ (r .at) out 0
   unfolding onward said
-  served-none few =
-      record {
-        tells = λ state told. tells state told (scanned state (drop at chunk)) refl;
-        writes = λ state told. writes state told (scanned state (drop at chunk)) refl;
-        fits = zero-le;
-        reached = scan .reached;
-        within = scan .within;
-      }
+  served-none few = served zero-le go
     where
-      tells : (state : State) → Tells m key iv ad text (more state) → (n : Next) → scanned state (drop at chunk) ≡ n
-          → Tells (r .machine) key′ iv′ ad′ text′ (more (after state (bytesFrom chunk at (r .at))))
-      tells state told (more next) e = rw (after-scan state told, e) (rw e at (scan .tells state told))
-      tells state told (whole k i a t) e = absurd (few ((rw e at (scan .tells state told)) .reads .0 .ended))
-
-      writes : (state : State) → Tells m key iv ad text (more state) → (n : Next) → scanned state (drop at chunk) ≡ n
-          → Wrote (written answer state (bytesFrom chunk at (r .at))) out out 0
-      writes state told (more next) e = rw (written-scan state told, e) (wrote-nothing out)
-      writes state told (whole k i a t) e = absurd (few ((rw e at (scan .tells state told)) .reads .0 .ended))
+      go : (n : Next) → Remembers (r .machine) key′ iv′ ad′ text′ n
+          → Remembers (r .machine) key′ iv′ ad′ text′ (more (onward n)) × Wrote (said answer n) out out 0
+      go (more next) known = (known, wrote-nothing out)
+      go (whole k i a t) known = absurd (few (known .reads .0 .ended))
 
   -- a record is whole, and answered
-  pub served-whole : (out′ : List ℕ) (count : ℕ) → count ≤ length out′ → r .machine .lines ≡ 4
-      → ((k i a t : List ℕ) → Tells (r .machine) key′ iv′ ad′ text′ (whole k i a t)
+  pub served-whole : {out′ : List ℕ} {count : ℕ} → count ≤ length out′ → r .machine .lines ≡ 4
+      → ((k i a t : List ℕ) → Remembers (r .machine) key′ iv′ ad′ text′ (whole k i a t)
       → Wrote (answerTo answer k i a t) out out′ count)
       → Served answer m key iv ad text chunk at out freshMachine key′ iv′ ad′ text′ (r .at) out′ count
   unfolding onward said
-  served-whole out′ count fits four answered =
-      record {
-        tells = λ state told. tells state told (scanned state (drop at chunk)) refl;
-        writes = λ state told. writes state told (scanned state (drop at chunk)) refl;
-        fits = fits;
-        reached = scan .reached;
-        within = scan .within;
-      }
+  served-whole {out′} {count} fits four answered = served fits go
     where
-      not-more : (state next : State) → Tells m key iv ad text (more state) → scanned state (drop at chunk) ≡ more next → ⊥
-      not-more state next told e =
-          let few : r .machine .lines < 4 = open-lines next (rw e at (scan .tells state told)) in
-          omega arith
-
-      tells : (state : State) → Tells m key iv ad text (more state) → (n : Next) → scanned state (drop at chunk) ≡ n
-          → Tells freshMachine key′ iv′ ad′ text′ (more (after state (bytesFrom chunk at (r .at))))
-      tells state told (more next) e = absurd (not-more state next told e)
-      tells state told (whole k i a t) e =
-          rw (after-scan state told, e) (tells-start key′ iv′ ad′ text′ (scan .tells state told .room))
-
-      writes : (state : State) → Tells m key iv ad text (more state) → (n : Next) → scanned state (drop at chunk) ≡ n
-          → Wrote (written answer state (bytesFrom chunk at (r .at))) out out′ count
-      writes state told (more next) e = absurd (not-more state next told e)
-      writes state told (whole k i a t) e = rw (written-scan state told, e) (answered k i a t (rw e at (scan .tells state told)))
+      go : (n : Next) → Remembers (r .machine) key′ iv′ ad′ text′ n
+          → Remembers freshMachine key′ iv′ ad′ text′ (more (onward n)) × Wrote (said answer n) out out′ count
+      go (more next) known =
+          let few = open-lines next known in
+          absurd (omega arith)
+      go (whole k i a t) known = (remembers-start key′ iv′ ad′ text′ (known .room), answered k i a t known)

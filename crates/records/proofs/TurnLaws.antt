@@ -10,7 +10,7 @@ use lib.Seq.{take-add, drop-drop, take-at, drop-at}
 use Rattle.records.specs.Records.{Answering}
 use Rattle.records.specs.Reading.{after, written}
 use Rattle.records.specs.Answers.{Wrote}
-use Rattle.records.specs.Told.{bytesFrom, Followed, Served}
+use Rattle.records.specs.Remembered.{bytesFrom, Followed, Served}
 use Rattle.records.specs.declared.machine.Machine.{Machine}
 use Rattle.records.proofs.AnswerLaws.{wrote-nothing}
 use Rattle.records.proofs.ChunkLaws.{after-append, written-append}
@@ -51,8 +51,8 @@ module _ (answer : Answering) {m : Machine} {key iv ad text : List ℕ} (chunk :
   unfolding after written
   served-nothing =
       record {
-        tells = λ state told. rw (bytes-none chunk at) told;
-        writes = λ state told. rw (bytes-none chunk at) (wrote-nothing out);
+        remembers = λ state known. rw (bytes-none chunk at) known;
+        writes = λ state known. rw (bytes-none chunk at) (wrote-nothing out);
         fits = zero-le;
         reached = le-refl at;
         within = λ h. h;
@@ -69,10 +69,10 @@ module _ (answer : Answering) {m : Machine} {key iv ad text : List ℕ} (chunk :
       let part = bytesFrom chunk at mid in
       let next = bytesFrom chunk mid end in
       record {
-        tells = λ state told. rw (bytes, after-append state part next) (second .tells (after state part) (first .tells state told));
-        writes = λ state told.
+        remembers = λ state known. rw (bytes, after-append state part next) (second .remembers (after state part) (first .remembers state known));
+        writes = λ state known.
             rw (bytes, written-append answer state part next)
-            (wrote-then (first .writes state told) (second .writes (after state part) (first .tells state told)) kept);
+            (wrote-then (first .writes state known) (second .writes (after state part) (first .remembers state known)) kept);
         fits = omega (arith, rw length-drop at (second .fits));
         reached = omega (arith, first .reached, second .reached);
         within = λ h. second .within (first .within h);
@@ -83,7 +83,7 @@ pub followed-then : {m m′ m″ : Machine} {key iv ad text key′ iv′ ad′ t
     → mid ≤ end → Followed m key iv ad text (take mid chunk) m′ key′ iv′ ad′ text′
     → Followed m′ key′ iv′ ad′ text′ (bytesFrom chunk mid end) m″ key″ iv″ ad″ text″
     → Followed m key iv ad text (take end chunk) m″ key″ iv″ ad″ text″
-followed-then chunk mid end order first second state told =
+followed-then chunk mid end order first second state known =
     let there : mid + (end - mid) ≡ end = omega arith in
     let bytes = ap (λ n. take n chunk) (sym there) ∙ take-add mid (end - mid) chunk in
-    rw (bytes, after-append state (take mid chunk) (bytesFrom chunk mid end)) (second (after state (take mid chunk)) (first state told))
+    rw (bytes, after-append state (take mid chunk) (bytesFrom chunk mid end)) (second (after state (take mid chunk)) (first state known))

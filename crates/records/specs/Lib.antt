@@ -2,4 +2,4 @@ pub mod Answers
 pub mod Kept
 pub mod Reading
 pub mod Records
-pub mod Told
+pub mod Remembered

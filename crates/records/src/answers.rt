@@ -2,10 +2,11 @@
 use crate::machine::Machine;
 use crate::machine::remains;
 use hex::digits::write_hex;
+ghost use mathlib.Core.List.{[], _∷_};
 ghost use Prim.Native.Nat.{_+_, _*_, _≤_, _<_};
 ghost use lib.ListN.{length};
 ghost use Rattle.records.specs.Answers.{sealedLine, numberLine, Wrote};
-ghost use Rattle.records.specs.Records.{badLine, cutLine};
+ghost use Rattle.records.specs.Records.{lineFeed, badLine, cutLine};
 ghost use Rattle.records.specs.Kept.{lastLine};
 
 // `0 `, then the sealed bytes in hex.
@@ -42,11 +43,7 @@ pub fn write_bad(out: &mut [u8]) -> usize
     requires { ⌜ 4 ≤ length (now out) ⌝ }
     ensures { λ r. ⌜ Wrote badLine (now (out .entry)) (now (out .exit)) r ⌝ }
 {
-    out[0] = b'b';
-    out[1] = b'a';
-    out[2] = b'd';
-    out[3] = b'\n';
-    4
+    write_word(out, b'b', b'a', b'd')
 }
 
 // What is written where the input ends: `cut`, or nothing if it ends with a whole record.
@@ -65,9 +62,17 @@ fn write_cut(out: &mut [u8]) -> usize
     requires { ⌜ 4 ≤ length (now out) ⌝ }
     ensures { λ r. ⌜ Wrote cutLine (now (out .entry)) (now (out .exit)) r ⌝ }
 {
-    out[0] = b'c';
-    out[1] = b'u';
-    out[2] = b't';
+    write_word(out, b'c', b'u', b't')
+}
+
+// A word of three letters.
+fn write_word(out: &mut [u8], first: u8, second: u8, third: u8) -> usize
+    requires { ⌜ 4 ≤ length (now out) ⌝ }
+    ensures { λ r. ⌜ Wrote (first ∷ second ∷ third ∷ lineFeed ∷ []) (now (out .entry)) (now (out .exit)) r ⌝ }
+{
+    out[0] = first;
+    out[1] = second;
+    out[2] = third;
     out[3] = b'\n';
     4
 }

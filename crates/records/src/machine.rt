@@ -6,7 +6,7 @@ use hex::line::fresh;
 ghost use mathlib.Core.Path.{_≡_};
 ghost use mathlib.Core.Bool.{_&&_};
 ghost use Rattle.records.specs.Kept.{freshMachine, withLine, remaining, lineEnded, Took};
-ghost use Rattle.records.specs.Told.{Scanned};
+ghost use Rattle.records.specs.Remembered.{Scanned};
 
 // What is kept of a record while it is read: how many of its lines are ended, whether those are good, how many bytes each of
 // them stands for, and the line at hand. The bytes are in four buffers beside it. With four lines ended the record is whole.

@@ -1,13 +1,13 @@
 -- The number that a list of facts gives is that of the first fact that holds. By induction on the facts, over the number that
 -- counting starts from.
-use mathlib.Core.Path.{_≡_, refl}
+use mathlib.Core.Path.{_≡_, refl, sym, _∙_}
 use mathlib.Core.Logic.{_↔_}
 use mathlib.Core.Bool.{Bool, true, false, false≢true, true≢false}
 use mathlib.Core.List.{List, [], _∷_}
 use Prim.Native.Nat.{ℕ, zero, suc, _+_, _-_, _<_, _≤_}
 use native.Mathlib.Omega.{arith}
 use lib.ListN.{getD}
-use Rattle.rows.specs.Rows.{lowest}
+use Rattle.rows.specs.Rows.{lowest, Applies}
 
 -- none of the first k facts holds
 abbrev NoneOf : List Bool → ℕ → Type 0
@@ -47,20 +47,17 @@ first-lowest (false ∷ facts) start (suc k) holds before =
 suc-sub-one : (m : ℕ) → suc m - 1 ≡ m
 suc-sub-one m = omega arith
 
--- n is given exactly when fact n holds and no earlier one does; facts are counted from 1, as document 01's rows are
-pub lowest-exactly : (facts : List Bool) (n : ℕ) → 0 < n
-    → (lowest 1 facts ≡ n)
-    ↔ ((getD facts (n - 1) false ≡ true) × ((m : ℕ) → 0 < m → m < n → getD facts (m - 1) false ≡ false))
-lowest-exactly facts n p = (forth, back)
+-- the answer by a list of facts is n exactly when fact n holds and no earlier one does; facts are counted from 1, as document
+-- 01's rows are
+pub lowest-exactly : (facts : List Bool) {a : ℕ} → a ≡ lowest 1 facts → (n : ℕ) → 0 < n → (a ≡ n) ↔ Applies facts n
+lowest-exactly facts {a} is n p = (forth, back)
   where
-    forth : lowest 1 facts ≡ n
-        → (getD facts (n - 1) false ≡ true) × ((m : ℕ) → 0 < m → m < n → getD facts (m - 1) false ≡ false)
+    forth : a ≡ n → Applies facts n
     forth q =
         let first = lowest-first facts 1 (n - 1) (omega arith) (omega arith) in
         (first .0, λ m pos h. first .1 (m - 1) (omega arith))
 
-    back : (getD facts (n - 1) false ≡ true) × ((m : ℕ) → 0 < m → m < n → getD facts (m - 1) false ≡ false)
-        → lowest 1 facts ≡ n
+    back : Applies facts n → a ≡ n
     back first =
         let earlier : NoneOf facts (n - 1) = λ m h. rw (suc-sub-one m) at (first .1 (suc m) (omega arith) (omega arith)) in
         omega (arith, first-lowest facts 1 (n - 1) (first .0) earlier)
@@ -78,6 +75,6 @@ none-lowest [] start none = refl
 none-lowest (true ∷ facts) start none = absurd (true≢false (none 0))
 none-lowest (false ∷ facts) start none = none-lowest facts (suc start) (λ m. none (suc m))
 
--- 0 is given exactly when no fact holds
-pub lowest-none : (facts : List Bool) → (lowest 1 facts ≡ 0) ↔ ((m : ℕ) → getD facts m false ≡ false)
-lowest-none facts = (none-holds facts 1 (omega arith), none-lowest facts 1)
+-- it is 0 exactly when no fact holds
+pub lowest-none : (facts : List Bool) {a : ℕ} → a ≡ lowest 1 facts → (a ≡ 0) ↔ ((m : ℕ) → getD facts m false ≡ false)
+lowest-none facts is = (λ e. none-holds facts 1 (omega arith) (sym is ∙ e), λ none. is ∙ none-lowest facts 1 none)

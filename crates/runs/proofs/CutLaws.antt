@@ -1,7 +1,7 @@
 -- A text cut into pieces, under a channel's key from its opening to its finish: no call changes key, mark or tag length, and the
 -- pieces' ciphertext is the whole text's, piece by piece.
 use mathlib.Core.Path.{_≡_, refl, sym, ap, ap₂, _∙_, subst}
-use mathlib.Core.Bool.{Bool, true, false, not, cond, _&&_, _||_, true≢false}
+use mathlib.Core.Bool.{Bool, true, false, not, cond, _&&_, true≢false}
 use mathlib.Core.List.{List, [], _∷_, _++_, append-assoc, append-nil}
 use Prim.Native.Nat.{ℕ, zero, suc, _+_, _/_, _≤_}
 use native.Mathlib.Omega.{arith}
@@ -19,12 +19,11 @@ use Rattle.counter.specs.Counter.{crypted}
 use Rattle.rows.specs.Rows.{longestText, keyBad, tagBad, textBad, tooShort}
 use Rattle.counter.proofs.CounterLaws.{crypted-nil}
 use Rattle.mode.proofs.ModeLaws.{length-tag}
-use Rattle.channel.specs.declared.Channel.{Channel}
+use Rattle.channel_state.specs.declared.Channel.{Channel}
 use Rattle.message.specs.declared.Message.{Message}
 use Rattle.pieces.specs.Piece.{ivOf, sixteen}
-use Rattle.channel.specs.State.{
+use Rattle.channel_state.specs.State.{
   withMessage,
-  idle,
   cipherOf,
   keyOf,
   openingNumber,
@@ -59,17 +58,21 @@ use Rattle.runs.specs.Run.{
   Roomy,
 }
 use Rattle.pieces.proofs.HeldLaws.{sixteen-take}
-use Rattle.channel.proofs.MessageLaws.{
-  past,
-  neither,
+use Rattle.channel_state.proofs.StateLaws.{past, neither, piece-size}
+use Rattle.runs.proofs.MessageLaws.{
   ciphertextIn,
   Holds,
+  held-open,
   begun-holds,
-  piece-size,
   piece-behind,
   fed-holds,
   finish-tag,
 }
+
+-- What is so of both is so of the one that a number picks.
+pub whichever : {A : Type 0} (P : A → Type 0) (number : ℕ) (a b : A) → P a → P b → P (ifDone number a b)
+whichever P zero a b of-a of-b = of-a
+whichever P (suc n) a b of-a of-b = of-b
 
 -- ---- what no call changes
 
@@ -93,10 +96,6 @@ kept-then k l =
       tag = l .tag ∙ k .tag;
     }
 
-kept-done : (number : ℕ) {c d : Channel} → Kept c d → Kept c (ifDone number d c)
-kept-done zero k = k
-kept-done (suc n) {c} k = kept-all c
-
 pub kept-message : (c : Channel) (m : Message) → Kept c (withMessage c m)
 kept-message c m = record { words = refl; h = refl; mark = refl; rounds = refl; tag = refl }
 
@@ -105,13 +104,13 @@ unfolding begunWith
 kept-begun c n ad = record { words = refl; h = refl; mark = refl; rounds = refl; tag = refl }
 
 -- No call changes a channel's key, mark or tag length,
-pub after-keeps : (c : Channel) (call : Call) → Kept c (after c call)
+after-keeps : (c : Channel) (call : Call) → Kept c (after c call)
 unfolding after beginOf feedOf endOf
-after-keeps c (begin n ad) = kept-done (beginNumber c n (length ad)) (kept-begun c n ad)
+after-keeps c (begin n ad) = whichever (Kept c) (beginNumber c n (length ad)) _ c (kept-begun c n ad) (kept-all c)
 after-keeps c (feed piece room) =
-    kept-done (feedNumber c (length piece) room) (kept-message c (messageWith c (pieceOf c piece)))
-after-keeps c finish = kept-done (endNumber c) (kept-message c noMessage)
-after-keeps c abandon = kept-done (endNumber c) (kept-message c noMessage)
+    whichever (Kept c) (feedNumber c (length piece) room) _ c (kept-message c (messageWith c (pieceOf c piece))) (kept-all c)
+after-keeps c finish = whichever (Kept c) (endNumber c) _ c (kept-message c noMessage) (kept-all c)
+after-keeps c abandon = whichever (Kept c) (endNumber c) _ c (kept-message c noMessage) (kept-all c)
 
 -- and no list of calls does.
 pub run-keeps : (c : Channel) (calls : List Call) → Kept c (run c calls)
@@ -128,6 +127,25 @@ pub ciphertext-kept : {c d : Channel} → Kept c d → (n : ℕ) (x : List ℕ) 
 ciphertext-kept {c} {d} k n x =
     ap (λ (e : List ℕ → List ℕ). crypted e (firstBlock (keyOf d) (ivOf (d .mark) n)) x) (cipher-kept k)
     ∙ ap₂ (λ (h : ℕ) (m : List ℕ). crypted (cipherOf c) (firstBlock h (ivOf m n)) x) (ap valueOf (k .h)) (k .mark)
+
+-- ---- a message that is held
+
+-- Finish answers 0,
+pub finish-done : (c : Channel) (n : ℕ) (ad x : List ℕ) → Holds c n ad x → endNumber c ≡ 0
+unfolding endNumber
+finish-done c n ad x m = ap (λ (b : Bool). cond b 9 0) (held-open c n ad x m)
+
+-- and a piece with room enough, where no text is too long, is not refused.
+pub feed-taken : (c : Channel) (n : ℕ) (ad x piece : List ℕ) (room : ℕ) → Holds c n ad x → length piece ≤ room
+    → length x + length piece ≤ longestText
+    → feedNumber c (length piece) room ≡ 0
+unfolding feedNumber
+feed-taken c n ad x piece room m enough fits =
+    let size = m .text in
+    ap (λ (b : Bool). cond b 9 (cond (textBad (c .message .text + length piece)) 5 (cond (tooShort room (length piece)) 7 0)))
+    (held-open c n ad x m)
+    ∙ ap₂ (λ (a b : Bool). cond a 5 (cond b 7 0)) (le-ltb longestText (c .message .text + length piece) (omega arith))
+    (le-ltb room (length piece) enough)
 
 -- ---- the key of an opening that answers 0
 
@@ -176,7 +194,7 @@ module _ (key mark : List ℕ) (t : ℕ) (opened : openingNumber (length key) t 
     tag-opened = k .tag
 
     -- The first block of a message, and what stands for its text, are those of the seal at once.
-    pub first-opened : (n : ℕ) → firstBlock (keyOf c) (ivOf (c .mark) n) ≡ firstBlock (hashKey (enciphered key)) (ivOf mark n)
+    first-opened : (n : ℕ) → firstBlock (keyOf c) (ivOf (c .mark) n) ≡ firstBlock (hashKey (enciphered key)) (ivOf mark n)
     first-opened n = ap₂ (λ (h : ℕ) (m : List ℕ). firstBlock h (ivOf m n)) key-opened mark-opened
 
     pub ciphertext-opened : (n : ℕ) (x : List ℕ)
@@ -184,11 +202,6 @@ module _ (key mark : List ℕ) (t : ℕ) (opened : openingNumber (length key) t 
     ciphertext-opened n x = ap₂ (λ (e : List ℕ → List ℕ) (j : List ℕ). crypted e j x) cipher-opened (first-opened n)
 
     module _ (n : ℕ) (ad x : List ℕ) (m : Holds c n ad x) where
-      -- Finish answers 0, and gives the tag of the text so far, cut to the tag length.
-      pub finish-done : endNumber c ≡ 0
-      unfolding endNumber idle
-      finish-done = ap (λ (b : Bool). cond b 9 0) (ap₂ _||_ (m .alive) (m .begun))
-
       whole-tag : messageTag c
           ≡ wholeTag (enciphered key) (firstBlock (hashKey (enciphered key)) (ivOf mark n)) ad
           (crypted (enciphered key) (firstBlock (hashKey (enciphered key)) (ivOf mark n)) x)
@@ -200,6 +213,7 @@ module _ (key mark : List ℕ) (t : ℕ) (opened : openingNumber (length key) t 
           ∙ ap₂ (λ (j d : List ℕ). tagBy (hashKey (enciphered key)) (enciphered key) j ad d)
           (first-opened n) (ciphertext-opened n x)
 
+      -- Finish gives the tag of the text so far, cut to the tag length.
       pub tag-out : take t (tagOut c)
           ≡ take t
           (wholeTag (enciphered key) (firstBlock (hashKey (enciphered key)) (ivOf mark n)) ad
@@ -210,24 +224,12 @@ module _ (key mark : List ℕ) (t : ℕ) (opened : openingNumber (length key) t 
           let tag = wholeTag (enciphered key) j ad (crypted (enciphered key) j x) in
           let size : length (take t tag) ≡ t =
           length-take-le t tag (rw (length-tag (enciphered key) j ad (crypted (enciphered key) j x)) short-tag) in
-          ap (λ (k : ℕ). take t (ifDone k (sixteen (take (c .tag) (messageTag c))) (replicate 16 0))) finish-done
+          ap (λ (k : ℕ). take t (ifDone k (sixteen (take (c .tag) (messageTag c))) (replicate 16 0))) (finish-done c n ad x m)
           ∙ ap₂ (λ (k : ℕ) (s : List ℕ). take t (sixteen (take k s))) tag-opened whole-tag
           ∙ ap (λ (k : ℕ). take k (sixteen (take t tag))) (sym size)
           ∙ sixteen-take (take t tag) (rw size short-tag)
 
 -- ---- the pieces
-
--- a piece with room enough, and no text too long, is not refused
-pub feed-taken : (c : Channel) (n : ℕ) (ad x piece : List ℕ) (room : ℕ) → Holds c n ad x → length piece ≤ room
-    → length x + length piece ≤ longestText
-    → feedNumber c (length piece) room ≡ 0
-unfolding feedNumber idle
-feed-taken c n ad x piece room m enough fits =
-    let size = m .text in
-    ap (λ (b : Bool). cond b 9 (cond (textBad (c .message .text + length piece)) 5 (cond (tooShort room (length piece)) 7 0)))
-    (ap₂ _||_ (m .alive) (m .begun))
-    ∙ ap₂ (λ (a b : Bool). cond a 5 (cond b 7 0)) (le-ltb longestText (c .message .text + length piece) (omega arith))
-    (le-ltb room (length piece) enough)
 
 -- what feeding a list of pieces gives, where the text before them is x
 pub record Cut (c : Channel) (n : ℕ) (ad x : List ℕ) (pieces : List Piece) : Type 0 where
@@ -266,6 +268,13 @@ cut c n ad x (p ∷ pieces) m roomy fits =
           ∙ ap (λ (k : ℕ). ciphertextIn c n x ++ (ifDone k (pieceOf c piece) [] ++ written next (feeds pieces))) (sym taken);
     }
 
+-- The same of a message from its accepted begin.
+pub all-cut : (c : Channel) (n : ℕ) (ad : List ℕ) → beginNumber c n (length ad) ≡ 0 → (pieces : List Piece) → Roomy pieces
+    → length (textOf pieces) ≤ longestText
+    → Cut (beginOf c n ad) n ad [] pieces
+all-cut c n ad accepted pieces roomy fits =
+    cut (beginOf c n ad) n ad [] pieces (begun-holds c n ad accepted) roomy (omega arith)
+
 -- What a feed leaves in its output: the bytes that it writes, and behind them what stood there.
 pub feed-writes : (c : Channel) (piece out : List ℕ)
     → feedOut c piece out
@@ -288,10 +297,8 @@ module _ (key mark : List ℕ) (t : ℕ) (opened : openingNumber (length key) t 
         kept-then (run-keeps (newChannel key mark t) calls) (after-keeps c (begin n ad))
 
     module _ (cuts : List Piece) (roomy : Roomy cuts) (fits : length (textOf cuts) ≤ longestText) where
-      all-cut : Cut (beginOf (run (newChannel key mark t) calls) n ad) n ad [] cuts
-      all-cut =
-          let c = run (newChannel key mark t) calls in
-          cut (beginOf c n ad) n ad [] cuts (begun-holds c n ad accepted) roomy (omega arith)
+      fed : Cut (beginOf (run (newChannel key mark t) calls) n ad) n ad [] cuts
+      fed = all-cut (run (newChannel key mark t) calls) n ad accepted cuts roomy fits
 
       -- After each feed of a message begun in a channel that an opening and any calls gave, whatever follows, the bytes written
       -- so far are the leading ciphertext bytes of the text so far.
@@ -301,7 +308,7 @@ module _ (key mark : List ℕ) (t : ℕ) (opened : openingNumber (length key) t 
           let b = beginOf (run (newChannel key mark t) calls) n ad in
           let nothing : ciphertextIn b n [] ≡ [] = crypted-nil (cipherOf b) _ in
           sym (ap (λ (s : List ℕ). s ++ written b (feeds cuts)) nothing)
-          ∙ sym (all-cut .bytes)
+          ∙ sym (fed .bytes)
           ∙ ciphertext-opened key mark t opened b kept-begin n (textOf cuts)
 
       -- For any cut of a text into pieces, empty ones too, the outputs joined, followed by finish's tag cut to the tag length,
@@ -315,4 +322,4 @@ module _ (key mark : List ℕ) (t : ℕ) (opened : openingNumber (length key) t 
           let d = run b (feeds cuts) in
           let kept = kept-then kept-begin (run-keeps b (feeds cuts)) in
           ap₂ (λ (s e : List ℕ). s ++ e) so-far
-          (tag-out key mark t opened d kept n ad (textOf cuts) (all-cut .holds))
+          (tag-out key mark t opened d kept n ad (textOf cuts) (fed .holds))

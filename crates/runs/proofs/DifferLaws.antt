@@ -10,7 +10,6 @@ use borrow.Author.Tests.{ltb-true, ltb-false, eq-eqb}
 use lib.Dec.{eqb, ltb}
 use lib.ListN.{length, getD, replicate, length-append, List·getD-append}
 use lib.Seq.{getD-append-add, ext-getD}
-use Rattle.answer.specs.Number.{ifDone}
 use Rattle.octets.specs.Word.{wordAt}
 use Rattle.octets.specs.Block.{longAt, blocksFor}
 use Rattle.octets.proofs.BlockLaws.{word-bytes}
@@ -19,9 +18,9 @@ use Rattle.ledger.specs.History.{usedIn}
 use Rattle.mode.specs.Mode.{hashKey, firstBlock}
 use Rattle.counter.specs.Counter.{counterBlock, inputs}
 use Rattle.counter.proofs.InputsLaws.{length-inputs, inputs-first, inputs-word, inputs-keep, inputs-differ}
-use Rattle.channel.specs.declared.Channel.{Channel}
+use Rattle.channel_state.specs.declared.Channel.{Channel}
 use Rattle.pieces.specs.Piece.{ivOf, counterAt}
-use Rattle.channel.specs.State.{newChannel, beginNumber, feedNumber, pieceOf}
+use Rattle.channel_state.specs.State.{newChannel, beginNumber, feedNumber, pieceOf}
 use Rattle.runs.specs.Run.{
   Call,
   begin,
@@ -44,6 +43,7 @@ use Rattle.runs.specs.Run.{
   AllNumbered,
 }
 use Rattle.pieces.proofs.PieceLaws.{first-counter}
+use Rattle.runs.proofs.CutLaws.{whichever}
 use Rattle.runs.proofs.RunLaws.{Short, Once, going}
 
 -- ---- lists of blocks
@@ -100,10 +100,10 @@ differ-append s t f g across i k less h q = go (ltb i (length s)) (ltb k (length
 -- ---- one message's blocks
 
 -- a cipher input block of the message with this mark and number
-pub record InputBlock (mark : List ℕ) (n : ℕ) (b : List ℕ) : Type 0 where
-  pub marked : (i : ℕ) → i < 4 → getD b i 0 ≡ getD mark i 0
-  pub numbered : longAt b 4 ≡ n
-  pub counted : 0 < wordAt b 12
+record InputBlock (mark : List ℕ) (n : ℕ) (b : List ℕ) : Type 0 where
+  marked : (i : ℕ) → i < 4 → getD b i 0 ≡ getD mark i 0
+  numbered : longAt b 4 ≡ n
+  counted : 0 < wordAt b 12
 
 -- bytes 4 to 11 make the number
 long-same : (b c : List ℕ) → ((i : ℕ) → i < 12 → getD b i 0 ≡ getD c i 0) → longAt b 4 ≡ longAt c 4
@@ -147,7 +147,7 @@ counts j m (suc i) one within few =
     omega (arith, same)
 
 -- Each cipher input block of a message has its mark, its number, and a counter that is not 0.
-pub input-block : (h : ℕ) (mark : List ℕ) (n m i : ℕ) → n < 2 ^ 64 → i ≤ m → suc m < 2 ^ 32
+input-block : (h : ℕ) (mark : List ℕ) (n m i : ℕ) → n < 2 ^ 64 → i ≤ m → suc m < 2 ^ 32
     → InputBlock mark n (getD (inputs (firstBlock h (ivOf mark n)) m) i [])
 input-block h mark n m i small within few =
     let j = firstBlock h (ivOf mark n) in
@@ -165,14 +165,14 @@ input-block h mark n m i small within few =
 -- ---- all messages' blocks
 
 -- a message number has 64 bits
-abbrev pub Narrow : Sent → Type 0
+abbrev Narrow : Sent → Type 0
 Narrow m = m .number < 2 ^ 64
 
 -- a block is one of a message among these
-pub record Among (mark : List ℕ) (sent : List Sent) (b : List ℕ) : Type 0 where
-  pub number : ℕ
-  pub used : usedIn (numbersOf sent) number ≡ true
-  pub block : InputBlock mark number b
+record Among (mark : List ℕ) (sent : List Sent) (b : List ℕ) : Type 0 where
+  number : ℕ
+  used : usedIn (numbersOf sent) number ≡ true
+  block : InputBlock mark number b
 
 or-right : (a b : Bool) → b ≡ true → (a || b) ≡ true
 or-right true b e = refl
@@ -185,7 +185,7 @@ own-block h mark m short narrow i within =
     input-block h mark (m .number) (blocksFor (length (m .text))) i narrow (omega arith) (omega arith)
 
 -- Each cipher input block is one of a message.
-pub blocks-among : (h : ℕ) (mark : List ℕ) (sent : List Sent) → Every Short sent → Every Narrow sent
+blocks-among : (h : ℕ) (mark : List ℕ) (sent : List Sent) → Every Short sent → Every Narrow sent
     → Each (Among mark sent) (blocksOf h mark sent)
 unfolding blocksOf numbersOf usedIn
 blocks-among h mark [] short narrow = λ i within. absurd (omega arith)
@@ -206,17 +206,17 @@ blocks-among h mark (m ∷ sent) short narrow =
     })
 
 -- no two are the same, where no number is there twice
-blocks-differ : (h : ℕ) (mark : List ℕ) (sent : List Sent) → Every Short sent → Every Narrow sent → Once sent
+messages-share-no-block : (h : ℕ) (mark : List ℕ) (sent : List Sent) → Every Short sent → Every Narrow sent → Once sent
     → Differ (blocksOf h mark sent)
 unfolding blocksOf
-blocks-differ h mark [] short narrow once = λ i k less within q. absurd (omega arith)
-blocks-differ h mark (m ∷ sent) short narrow once =
+messages-share-no-block h mark [] short narrow once = λ i k less within q. absurd (omega arith)
+messages-share-no-block h mark (m ∷ sent) short narrow once =
     differ-append (inputsOf h mark m) (blocksOf h mark sent)
     (λ i k less within q.
     let size = length-inputs (firstBlock h (ivOf mark (m .number))) (blocksFor (length (m .text))) in
     let small = short .0 in
     inputs-differ (firstBlock h (ivOf mark (m .number))) (blocksFor (length (m .text))) (omega arith) i k less (omega arith) q)
-    (blocks-differ h mark sent (short .1) (narrow .1) (once .1))
+    (messages-share-no-block h mark sent (short .1) (narrow .1) (once .1))
     (λ i k here there q.
     let mine = own-block h mark m (short .0) (narrow .0) i here in
     let older = blocks-among h mark sent (short .1) (narrow .1) k there in
@@ -231,18 +231,14 @@ unfolding longerBy
 longer-narrow piece bytes [] narrow = narrow
 longer-narrow piece bytes (m ∷ sent) narrow = narrow
 
-either-narrow : (k : ℕ) (more sent : List Sent) → Every Narrow more → Every Narrow sent → Every Narrow (ifDone k more sent)
-either-narrow zero more sent a b = a
-either-narrow (suc k) more sent a b = b
-
 with-narrow : (c : Channel) (sent : List Sent) (call : Call) → Every Narrow sent → Numbered call
     → Every Narrow (sentWith c sent call)
 unfolding sentWith
 with-narrow c sent (begin n ad) narrow small =
-    either-narrow (beginNumber c n (length ad)) (record { number = n; ad = ad; text = []; bytes = [] } ∷ sent) sent
+    whichever (Every Narrow) (beginNumber c n (length ad)) (record { number = n; ad = ad; text = []; bytes = [] } ∷ sent) sent
     (small, narrow) narrow
 with-narrow c sent (feed piece room) narrow small =
-    either-narrow (feedNumber c (length piece) room) (longerBy piece (pieceOf c piece) sent) sent
+    whichever (Every Narrow) (feedNumber c (length piece) room) (longerBy piece (pieceOf c piece) sent) sent
     (longer-narrow piece (pieceOf c piece) sent narrow) narrow
 with-narrow c sent finish narrow small = narrow
 with-narrow c sent abandon narrow small = narrow
@@ -264,7 +260,7 @@ all-among key mark t calls small =
 pub all-blocks-differ : (key mark : List ℕ) (t : ℕ) (calls : List Call) → AllNumbered calls
     → Differ (inputBlocks key mark t calls)
 all-blocks-differ key mark t calls small =
-    blocks-differ (hashKey (enciphered key)) mark (messages (newChannel key mark t) calls) (going key mark t calls .short)
+    messages-share-no-block (hashKey (enciphered key)) mark (messages (newChannel key mark t) calls) (going key mark t calls .short)
     (after-narrow (newChannel key mark t) [] calls tt small) (going key mark t calls .once)
 
 -- None of them is the zero block.

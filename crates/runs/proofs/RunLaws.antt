@@ -8,6 +8,9 @@ use native.Mathlib.Omega.{arith}
 use lib.Dec.{eqb}
 use lib.ListN.{length, getD, replicate, length-append}
 use Rattle.answer.specs.Number.{ifDone}
+use Rattle.hash_field.specs.declared.Element.{Element}
+use Rattle.hash_field.specs.Element.{valueOf, elementOf}
+use Rattle.hash_field.proofs.ElementLaws.{value-element}
 use Rattle.ledger.specs.History.{usedIn, verdictIn}
 use Rattle.ledger.specs.Ledger.{verdictOf, Tells}
 use Rattle.ledger.proofs.HistoryLaws.{
@@ -21,9 +24,9 @@ use Rattle.ledger.proofs.HistoryLaws.{
 use Rattle.mode.specs.Mode.{sealedBy, sealed}
 use Rattle.rows.specs.Rows.{longestText, adBad}
 use Rattle.counter.proofs.CounterLaws.{crypted-nil}
-use Rattle.channel.specs.declared.Channel.{Channel}
+use Rattle.channel_state.specs.declared.Channel.{Channel}
 use Rattle.message.specs.declared.Message.{Message}
-use Rattle.channel.specs.State.{
+use Rattle.channel_state.specs.State.{
   withMessage,
   deadChannel,
   busy,
@@ -59,24 +62,16 @@ use Rattle.runs.specs.Run.{
   messages,
   numbersOf,
   accepted,
+  Newest,
   Every,
   Judged,
   Crypted,
-  NewestSealed,
+  SealedWith,
 }
-use Rattle.channel.proofs.MessageLaws.{
-  past,
-  neither,
-  begin-done,
-  feed-done,
-  ciphertextIn,
-  Holds,
-  begun-start,
-  piece-behind,
-  fed-more,
-  unused-zero,
-}
+use Rattle.channel_state.proofs.StateLaws.{begin-done, feed-done, end-done}
+use Rattle.runs.proofs.MessageLaws.{ciphertextIn, Holds, begun-start, piece-behind, fed-more, unused-zero}
 use Rattle.runs.proofs.CutLaws.{
+  whichever,
   Kept,
   kept-all,
   kept-then,
@@ -88,9 +83,9 @@ use Rattle.runs.proofs.CutLaws.{
 }
 
 -- the newest message is the one in progress, if any is
-abbrev Newest : Channel → List Sent → Type 0
-Newest c [] = eqb (c .message .phase) 0 ≡ true
-Newest c (m ∷ sent) = eqb (c .message .phase) 0 ≡ false → Holds c (m .number) (m .ad) (m .text)
+abbrev Current : Channel → List Sent → Type 0
+Current c [] = eqb (c .message .phase) 0 ≡ true
+Current c (m ∷ sent) = eqb (c .message .phase) 0 ≡ false → Holds c (m .number) (m .ad) (m .text)
 
 -- the bytes of a message are the ciphertext of its text, under c's key and mark
 abbrev CryptedIn : Channel → Sent → Type 0
@@ -105,11 +100,19 @@ abbrev pub Once : List Sent → Type 0
 Once [] = Unit
 Once (m ∷ sent) = (usedIn (numbersOf sent) (m .number) ≡ false) × Once sent
 
+-- the two halves of an element follow from its value
+abbrev pub Halved : Element → Type 0
+Halved e = e ≡ elementOf (valueOf e)
+
+pub halved : (n : ℕ) → Halved (elementOf n)
+halved n = ap elementOf (sym (value-element n))
+
 -- what holds of a channel and its messages after any calls
 pub record Going (start c : Channel) (sent : List Sent) : Type 0 where
   pub kept : Kept start c
   pub tells : Tells (c .ledger) (numbersOf sent)
-  pub newest : Newest c sent
+  pub newest : Current c sent
+  pub halves : Halved (c .message .sum)
   pub quiet : eqb (c .message .phase) 0 ≡ true → c .message ≡ noMessage
   pub bytes : Every (CryptedIn start) sent
   pub short : Every Short sent
@@ -127,6 +130,7 @@ begun-going start c sent n ad g e =
       kept = kept-then (g .kept) (kept-begun c n ad);
       tells = accept-tells n (g .tells);
       newest = λ phase. begun-start c n ad e;
+      halves = halved _;
       quiet = λ phase. absurd (false≢true phase);
       bytes = (sym (crypted-nil (cipherOf start) _), g .bytes);
       short = (omega arith, g .short);
@@ -137,16 +141,7 @@ fed-going : (start c : Channel) (sent : List Sent) (piece : List ℕ) (room : �
     → feedNumber c (length piece) room ≡ 0
     → Going start (withMessage c (messageWith c (pieceOf c piece))) (longerBy piece (pieceOf c piece) sent)
 unfolding longerBy messageAfter numbersOf
-fed-going start c [] piece room g e =
-    record {
-      kept = kept-then (g .kept) (kept-message c (messageWith c (pieceOf c piece)));
-      tells = g .tells;
-      newest = g .newest;
-      quiet = λ phase. absurd (false≢true (sym (feed-done c (length piece) room e .1) ∙ phase));
-      bytes = g .bytes;
-      short = g .short;
-      once = g .once;
-    }
+fed-going start c [] piece room g e = absurd (true≢false (sym (g .newest) ∙ feed-done c (length piece) room e .1))
 fed-going start c (m ∷ sent) piece room g e =
     let done = feed-done c (length piece) room e in
     let holds = g .newest (done .1) in
@@ -158,6 +153,7 @@ fed-going start c (m ∷ sent) piece room g e =
       tells = g .tells;
       quiet = λ phase. absurd (false≢true (sym (done .1) ∙ phase));
       newest = λ phase. fed-more c (m .number) (m .ad) (m .text) piece holds;
+      halves = halved _;
       bytes = (
         ap (λ (s : List ℕ). s ++ pieceOf c piece) (g .bytes .0 ∙ sym (ciphertext-kept (g .kept) (m .number) (m .text)))
             ∙ sym (piece-behind c (m .number) (m .ad) (m .text) piece holds)
@@ -168,16 +164,18 @@ fed-going start c (m ∷ sent) piece room g e =
       once = g .once;
     }
 
-ended-newest : (c : Channel) (sent : List Sent) → Newest (withMessage c noMessage) sent
+ended-newest : (c : Channel) (sent : List Sent) → Current (withMessage c noMessage) sent
 ended-newest c [] = refl
 ended-newest c (m ∷ sent) = λ phase. absurd (true≢false phase)
 
 ended-going : (start c : Channel) (sent : List Sent) → Going start c sent → Going start (withMessage c noMessage) sent
+unfolding valueOf elementOf
 ended-going start c sent g =
     record {
       kept = kept-then (g .kept) (kept-message c noMessage);
       tells = g .tells;
       newest = ended-newest c sent;
+      halves = refl;
       quiet = λ phase. refl;
       bytes = g .bytes;
       short = g .short;
@@ -189,11 +187,6 @@ either-going : (k : ℕ) {start c d : Channel} {sent more : List Sent} → (k �
 either-going zero done g = done refl
 either-going (suc k) done g = g
 
-ended-either : (k : ℕ) {start c d : Channel} {sent : List Sent} → Going start d sent → Going start c sent
-    → Going start (ifDone k d c) sent
-ended-either zero done g = done
-ended-either (suc k) done g = g
-
 after-going : (start c : Channel) (sent : List Sent) (call : Call) → Going start c sent
     → Going start (after c call) (sentWith c sent call)
 unfolding after sentWith beginOf feedOf endOf
@@ -201,8 +194,10 @@ after-going start c sent (begin n ad) g =
     either-going (beginNumber c n (length ad)) (begun-going start c sent n ad g) g
 after-going start c sent (feed piece room) g =
     either-going (feedNumber c (length piece) room) (fed-going start c sent piece room g) g
-after-going start c sent finish g = ended-either (endNumber c) (ended-going start c sent g) g
-after-going start c sent abandon g = ended-either (endNumber c) (ended-going start c sent g) g
+after-going start c sent finish g =
+    whichever (λ (d : Channel). Going start d sent) (endNumber c) _ c (ended-going start c sent g) g
+after-going start c sent abandon g =
+    whichever (λ (d : Channel). Going start d sent) (endNumber c) _ c (ended-going start c sent g) g
 
 run-going : (start c : Channel) (sent : List Sent) (calls : List Call) → Going start c sent
     → Going start (run c calls) (sentAfter c sent calls)
@@ -214,7 +209,7 @@ run-going start c sent (call ∷ calls) g =
 -- All of it holds after any calls on a new channel.
 pub going : (key mark : List ℕ) (t : ℕ) (calls : List Call)
     → Going (newChannel key mark t) (run (newChannel key mark t) calls) (messages (newChannel key mark t) calls)
-unfolding newChannel numbersOf
+unfolding newChannel numbersOf valueOf elementOf
 going key mark t calls =
     let c = newChannel key mark t in
     run-going c c [] calls
@@ -222,11 +217,45 @@ going key mark t calls =
       kept = kept-all c;
       tells = fresh-tells;
       newest = refl;
+      halves = refl;
       quiet = λ phase. refl;
       bytes = tt;
       short = tt;
       once = tt;
     })
+
+-- ---- the message in progress
+
+-- the newest message is the one in progress
+pub record InProgress (start c : Channel) (sent : List Sent) : Type 0 where
+  pub message : Sent
+  pub older : List Sent
+  pub newest : sent ≡ message ∷ older
+  pub holds : Holds c (message .number) (message .ad) (message .text)
+  pub halves : Halved (c .message .sum)
+  pub bytes : CryptedIn start message
+  pub short : Short message
+
+-- While a message is open, there is a newest one, and the channel holds it.
+in-progress : {start c : Channel} (sent : List Sent) → Going start c sent → eqb (c .message .phase) 0 ≡ false
+    → InProgress start c sent
+in-progress [] g active = absurd (true≢false (sym (g .newest) ∙ active))
+in-progress (m ∷ older) g active =
+    record {
+      message = m;
+      older = older;
+      newest = refl;
+      holds = g .newest active;
+      halves = g .halves;
+      bytes = g .bytes .0;
+      short = g .short .0;
+    }
+
+-- So after any calls on a new channel.
+pub open-message : (key mark : List ℕ) (t : ℕ) (calls : List Call)
+    → eqb (run (newChannel key mark t) calls .message .phase) 0 ≡ false
+    → InProgress (newChannel key mark t) (run (newChannel key mark t) calls) (messages (newChannel key mark t) calls)
+open-message key mark t calls = in-progress (messages (newChannel key mark t) calls) (going key mark t calls)
 
 -- ---- the numbers
 
@@ -256,42 +285,35 @@ begin-exactly key mark t calls n ad free fits =
 
 -- ---- the bytes
 
+crypted-opened : (key mark : List ℕ) (t : ℕ) → openingNumber (length key) t ≡ 0 → (m : Sent) → CryptedIn (newChannel key mark t) m
+    → Crypted key mark m
+crypted-opened key mark t opened m is =
+    let start = newChannel key mark t in
+    is ∙ ciphertext-opened key mark t opened start (kept-all start) (m .number) (m .text)
+
 -- In each message, also one abandoned or still open, the bytes written are the ciphertext of the text fed.
 pub messages-crypted : (key mark : List ℕ) (t : ℕ) → openingNumber (length key) t ≡ 0 → (calls : List Call)
     → Every (Crypted key mark) (messages (newChannel key mark t) calls)
 messages-crypted key mark t opened calls = go (messages (newChannel key mark t) calls) (going key mark t calls .bytes)
   where
-    go : (sent : List Sent) → Every (CryptedIn (newChannel key mark t)) sent
-        → Every (Crypted key mark) sent
+    go : (sent : List Sent) → Every (CryptedIn (newChannel key mark t)) sent → Every (Crypted key mark) sent
     go [] b = tt
-    go (m ∷ sent) b = (
-      b .0
-          ∙ ciphertext-opened key mark t opened (newChannel key mark t) (kept-all (newChannel key mark t)) (m .number) (m .text),
-      go sent (b .1),
-    )
+    go (m ∷ sent) b = (crypted-opened key mark t opened m (b .0), go sent (b .1))
 
 -- At any point of any calls from an opening where finish answers 0, the bytes written for the newest message, followed by
 -- finish's tag cut to the tag length, are the seal at once of the text fed to it.
 pub finish-sealed : (key mark : List ℕ) (t : ℕ) → openingNumber (length key) t ≡ 0 → (calls : List Call)
     → endNumber (run (newChannel key mark t) calls) ≡ 0
-    → NewestSealed key mark t (tagOut (run (newChannel key mark t) calls)) (messages (newChannel key mark t) calls)
-unfolding endNumber idle sealed sealedBy
+    → Newest (SealedWith key mark t (tagOut (run (newChannel key mark t) calls))) (messages (newChannel key mark t) calls)
+unfolding sealed sealedBy
 finish-sealed key mark t opened calls e =
-    go (messages (newChannel key mark t) calls) (going key mark t calls) (messages-crypted key mark t opened calls)
-  where
-    c : Channel
-    c = run (newChannel key mark t) calls
-
-    active : eqb (run (newChannel key mark t) calls .message .phase) 0 ≡ false
-    active = neither (eqb (c .tag) 0) (eqb (c .message .phase) 0) (past 8 (idle c) 0 e .0) .1
-
-    go : (sent : List Sent) → Going (newChannel key mark t) (run (newChannel key mark t) calls) sent
-        → Every (Crypted key mark) sent
-        → NewestSealed key mark t (tagOut (run (newChannel key mark t) calls)) sent
-    go [] g b = absurd (true≢false (sym (g .newest) ∙ active))
-    go (m ∷ sent) g b =
-        ap₂ (λ (s tag : List ℕ). s ++ tag) (b .0)
-        (tag-out key mark t opened c (g .kept) (m .number) (m .ad) (m .text) (g .newest active))
+    let c = run (newChannel key mark t) calls in
+    let now = open-message key mark t calls (end-done c e .1) in
+    let m = now .message in
+    let kept = going key mark t calls .kept in
+    subst (Newest (SealedWith key mark t (tagOut c))) (sym (now .newest))
+    (ap₂ (λ (s tag : List ℕ). s ++ tag) (crypted-opened key mark t opened m (now .bytes))
+    (tag-out key mark t opened c kept (m .number) (m .ad) (m .text) (now .holds)))
 
 -- ---- the fields at rest
 
@@ -310,18 +332,15 @@ zeros (suc n) (suc i) = zeros n i
 pub part-zero : (key mark : List ℕ) (t : ℕ) (calls : List Call) (i : ℕ)
     → run (newChannel key mark t) calls .message .text % 16 ≤ i
     → getD (run (newChannel key mark t) calls .message .part) i 0 ≡ 0
-part-zero key mark t calls i unused =
-    go (messages (newChannel key mark t) calls) (going key mark t calls) (eqb (c .message .phase) 0) refl
+part-zero key mark t calls i unused = go (eqb (c .message .phase) 0) refl
   where
     c : Channel
     c = run (newChannel key mark t) calls
 
-    go : (sent : List Sent) → Going (newChannel key mark t) (run (newChannel key mark t) calls) sent → (b : Bool)
-        → eqb (run (newChannel key mark t) calls .message .phase) 0 ≡ b
+    go : (b : Bool) → eqb (run (newChannel key mark t) calls .message .phase) 0 ≡ b
         → getD (run (newChannel key mark t) calls .message .part) i 0 ≡ 0
-    go sent g true e = ap (λ (m : Message). getD (m .part) i 0) (g .quiet e) ∙ zeros 16 i
-    go [] g false e = absurd (true≢false (sym (g .newest) ∙ e))
-    go (m ∷ sent) g false e = unused-zero c (m .number) (m .ad) (m .text) (g .newest e) i unused
+    go true e = ap (λ (m : Message). getD (m .part) i 0) (rest-zero key mark t calls e) ∙ zeros 16 i
+    go false e = unused-zero c _ _ _ (open-message key mark t calls e .holds) i unused
 
 -- ---- a refused opening
 

@@ -12,9 +12,9 @@ use Rattle.aes.specs.Cipher.{enciphered}
 use Rattle.ledger.specs.History.{staleIn, usedIn}
 use Rattle.mode.specs.Mode.{hashKey, firstBlock, sealed}
 use Rattle.counter.specs.Counter.{inputs, crypted}
-use Rattle.channel.specs.declared.Channel.{Channel}
+use Rattle.channel_state.specs.declared.Channel.{Channel}
 use Rattle.pieces.specs.Piece.{ivOf}
-use Rattle.channel.specs.State.{newChannel, beginNumber, beginOf, feedNumber, feedOf, pieceOf, endOf}
+use Rattle.channel_state.specs.State.{newChannel, beginNumber, beginOf, feedNumber, feedOf, pieceOf, endOf}
 
 -- a call: begin with a number and AD, feed a piece with so much room in the output, finish, abandon
 pub data Call : Type 0 where
@@ -112,6 +112,11 @@ pub record Judged (h : List ℕ) (n answer : ℕ) : Type 0 where
   pub used : (answer ≡ 11) ↔ ((staleIn h n ≡ false) × (usedIn h n ≡ true))
   pub done : (answer ≡ 0) ↔ ((staleIn h n ≡ false) × (usedIn h n ≡ false))
 
+-- there is a newest message, and it is so
+abbrev pub Newest : (Sent → Type 0) → List Sent → Type 0
+Newest P [] = ⊥
+Newest P (m ∷ sent) = P m
+
 -- each message is so
 abbrev pub Every : (Sent → Type 0) → List Sent → Type 0
 Every P [] = Unit
@@ -122,10 +127,9 @@ abbrev pub Crypted : List ℕ → List ℕ → Sent → Type 0
 Crypted key mark m =
     m .bytes ≡ crypted (enciphered key) (firstBlock (hashKey (enciphered key)) (ivOf mark (m .number))) (m .text)
 
--- there is a newest message, and its bytes with the leading t bytes of a tag behind them are the seal at once of its text
-abbrev pub NewestSealed : List ℕ → List ℕ → ℕ → List ℕ → List Sent → Type 0
-NewestSealed key mark t tag [] = ⊥
-NewestSealed key mark t tag (m ∷ sent) =
+-- its bytes with the leading t bytes of a tag behind them are the seal at once of its text
+abbrev pub SealedWith : List ℕ → List ℕ → ℕ → List ℕ → Sent → Type 0
+SealedWith key mark t tag m =
     m .bytes ++ take t tag ≡ sealed (enciphered key) (ivOf mark (m .number)) (m .ad) t (m .text)
 
 -- ---- the cipher input blocks

@@ -3,14 +3,14 @@ use mathlib.Core.Path.{_≡_}
 use mathlib.Core.List.{List}
 use Prim.Native.Nat.{ℕ}
 use Rattle.answer.specs.Number.{numberOf}
-use Rattle.channel.specs.declared.Channel.{Channel}
+use Rattle.channel_state.specs.declared.Channel.{Channel}
 use Rattle.channel.specs.declared.Step.{Step}
 use Rattle.channel.specs.declared.Fed.{Fed}
 use Rattle.channel.specs.declared.Finished.{Finished}
 use Rattle.channel.specs.Promise.{OpeningPromise, BeginPromise, FeedPromise, FinishPromise, AbandonPromise}
 
 -- `channel::open` keeps its promise with a step, and its number and its channel are told
-pub record ChannelCall (key mark : List ℕ) (t number : ℕ) (after : Channel) : Type 0 where
+pub record OpeningCall (key mark : List ℕ) (t number : ℕ) (after : Channel) : Type 0 where
   pub step : Step
   pub promise : OpeningPromise key mark t step
   pub answer : number ≡ numberOf (step .answer)

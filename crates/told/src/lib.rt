@@ -1,9 +1,9 @@
 // The calls of a channel by value, each with its answer told as document 01's number.
 use answer::number as number_of;
-use channel::Channel;
-use channel::Mark;
-use channel::Number;
-ghost use Rattle.told.specs.Call.{ChannelCall, BeginCall, FeedCall, FinishCall, AbandonCall};
+use channel_state::Channel;
+use channel_state::Mark;
+use channel_state::Number;
+ghost use Rattle.told.specs.Call.{OpeningCall, BeginCall, FeedCall, FinishCall, AbandonCall};
 
 // What a call answered, and the channel that it handed back.
 pub struct Told {
@@ -13,7 +13,7 @@ pub struct Told {
 
 // A channel opened as `channel::open` does; the dead one on a refusal.
 pub fn opened(key: &[u8], mark: &[u8; 4], tag_len: usize) -> Told
-    ensures { λ r. ⌜ ChannelCall (now (key .entry)) (now (mark .entry)) «tag_len» (r .number) (r .channel) ⌝ }
+    ensures { λ r. ⌜ OpeningCall (now (key .entry)) (now (mark .entry)) «tag_len» (r .number) (r .channel) ⌝ }
 {
     let opened = channel::open(key, Mark(*mark), tag_len);
     let answer = opened.answer;

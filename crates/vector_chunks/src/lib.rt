@@ -6,7 +6,7 @@ use vector_lines::answer_record;
 ghost use mathlib.Core.Path.{_≡_};
 ghost use Prim.Native.Nat.{_+_, _≤_, _<_};
 ghost use lib.ListN.{length, take, drop};
-ghost use Rattle.records.specs.Told.{Served};
+ghost use Rattle.records.specs.Remembered.{Served};
 ghost use Rattle.vector_lines.specs.Line.{answerLine};
 
 // The longest answer: `0 `, the sealed bytes of the longest text in hex, and a line feed.

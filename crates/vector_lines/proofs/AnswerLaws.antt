@@ -1,27 +1,28 @@
 -- The answer line of a record, from what a seal promises: the output has room for all that it writes, so that row 7 is never given,
 -- and what stands in front of it is the sealed form.
-use mathlib.Core.Path.{_≡_, refl, sym, _∙_}
+use mathlib.Core.Path.{_≡_, refl, sym, ap, _∙_}
 use mathlib.Core.Bool.{Bool, true, false}
 use mathlib.Core.List.{List, _++_}
-use Prim.Native.Nat.{ℕ, _+_, _≤_, min}
+use Prim.Native.Nat.{ℕ, _+_, _≤_, _<_, min}
 use native.Mathlib.Nat.{le-refl}
 use native.Mathlib.Omega.{arith}
 use borrow.Author.Tests.{le-ltb}
-use lib.Dec.{eqb}
 use lib.ListN.{length, take, drop}
 use lib.Seq.{take-at}
 use Rattle.answer.specs.declared.Outcome.{Outcome}
 use Rattle.answer.specs.Number.{numberOf}
-use Rattle.answer.proofs.DoneLaws.{if-refused, when-done}
+use Rattle.answer.proofs.DoneLaws.{when-refused, when-done}
 use Rattle.aes.specs.Cipher.{enciphered}
 use Rattle.aes.proofs.CipherLaws.{enciphered-sixteen}
 use Rattle.mode.specs.Mode.{sealed}
 use Rattle.gcm.specs.Promise.{sealNumber, SealPromise}
 use Rattle.mode.proofs.ModeLaws.{length-sealed}
+use Rattle.hex.specs.Hex.{longestField}
+use Rattle.hex.specs.Line.{Counted}
 use Rattle.records.specs.Answers.{sealedLine, numberLine}
 use Rattle.records.specs.Reading.{whole}
 use Rattle.records.specs.Records.{answerTo}
-use Rattle.records.specs.Told.{Tells}
+use Rattle.records.specs.Remembered.{Remembers}
 use Rattle.records.specs.declared.machine.Machine.{Machine}
 use Rattle.records.proofs.ServeLaws.{answers-bad, answers-good}
 use Rattle.vector_lines.specs.Line.{answerNumber, answerLine, recordLine}
@@ -50,21 +51,27 @@ module _ (key iv ad text room : List ℕ) (enough : length text + 16 ≤ length 
         rw (none, done-count done, bytes, take-at form behind (length text + 16) long)
 
     -- refused: the number alone
-    pub refused-line : eqb (numberOf (r .answer)) 0 ≡ false → answerLine key iv ad text ≡ numberLine (numberOf (r .answer))
+    pub refused-line : 0 < numberOf (r .answer) → answerLine key iv ad text ≡ numberLine (numberOf (r .answer))
     unfolding answerLine
-    refused-line refusal =
-        rw (← numbered) (sym (if-refused (numberOf (r .answer)) _ _ refusal))
+    refused-line refusal = when-refused _ _ _ numbered refusal ∙ ap numberLine (sym numbered)
 
--- the record in the buffers is the one that the machine tells of
-pub record-told : {m : Machine} {key iv ad text : List ℕ} (k i a t : List ℕ) → Tells m key iv ad text (whole k i a t)
+-- what is counted of a field fits it
+within-field : {n : ℕ} {bytes line : List ℕ} → Counted n bytes line → min n longestField ≡ n
+within-field counted = omega (arith, counted .within)
+
+-- the record in the buffers is the one that the machine remembers
+pub record-remembered : {m : Machine} {key iv ad text : List ℕ} (k i a t : List ℕ) → Remembers m key iv ad text (whole k i a t)
     → answerTo answerLine k i a t ≡ recordLine m key iv ad text
-record-told {m} {key} {iv} {ad} {text} k i a t told = go (m .good) refl
+record-remembered {m} {key} {iv} {ad} {text} k i a t known = go (m .good) refl
   where
     go : (good : Bool) → m .good ≡ good → answerTo answerLine k i a t ≡ recordLine m key iv ad text
     go true e =
-        let one : min (m .key) 4096 ≡ m .key = omega (arith, told .reads .1 .within) in
-        let two : min (m .iv) 4096 ≡ m .iv = omega (arith, told .reads .2 .within) in
-        let three : min (m .ad) 4096 ≡ m .ad = omega (arith, told .reads .3 .within) in
-        let four : min (m .text) 4096 ≡ m .text = omega (arith, told .reads .4 .within) in
-        rw (e, one, two, three, four) (answers-good answerLine k i a t told e)
-    go false e = rw e (answers-bad answerLine k i a t told e)
+        rw (
+          e,
+          within-field (known .reads .1),
+          within-field (known .reads .2),
+          within-field (known .reads .3),
+          within-field (known .reads .4),
+        )
+        (answers-good answerLine k i a t known e)
+    go false e = rw e (answers-bad answerLine k i a t known e)

@@ -9,7 +9,7 @@ ghost use mathlib.Core.Path.{_≡_};
 ghost use mathlib.Core.Bool.{false};
 ghost use Prim.Native.Nat.{_≤_};
 ghost use lib.ListN.{length};
-ghost use Rattle.records.specs.Told.{Followed};
+ghost use Rattle.records.specs.Remembered.{Followed};
 
 // One buffer takes the input, and another the answers.
 fn main() {

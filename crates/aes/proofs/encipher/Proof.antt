@@ -1,9 +1,6 @@
 -- `aes::encipher` meets its contract: it enciphers with the round keys that the definition has.
-use mathlib.Core.Path.{_∙_, ap}
-use Prim.Native.Nat.{_+_, _/_}
-use lib.ListN.{length}
 use borrow.Author.Needs.{needs}
-use Rattle.aes.specs.Cipher.{encipheredBy, enciphered}
+use Rattle.aes.proofs.CipherLaws.{by-round-keys}
 use Rattle.aes.proofs.encipher.Statement.{statement}
 use Rattle.aes.proofs.encipher.Tie as tie
 
@@ -20,11 +17,9 @@ encipher-by-requires : tie.Need-encipher-by-requires
 encipher-by-requires c κs = search needs
 
 returns : tie.Need-returns
-unfolding enciphered
 returns c =
-    let given = c .before .before .before .before .before .before .before .args in
-    let rounds = length (given .key .now) / 4 + 6 in
-    c .encipher-by .ensures ∙ ap (λ words. encipheredBy words rounds (given .block)) (c .before .before .before .expand .ensures)
+    let key = c .before .before .before .before .before .before .before .args .key .now in
+    rw (← (by-round-keys key (c .before .before .before .expand .ensures))) (c .encipher-by .ensures)
 
 pub encipher-spec : {M : Type 1} → statement M
 encipher-spec =

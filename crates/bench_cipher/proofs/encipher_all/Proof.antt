@@ -7,18 +7,18 @@ use native.Mathlib.Omega.{arith}
 use borrow.Author.Needs.{needs}
 use Rattle.aes.specs.Cipher.{encipheredBy}
 use Rattle.aes.proofs.CipherLaws.{length-enciphered}
-use Rattle.bench_cipher.proofs.EachLaws.{Reached, reached-none, reached-more, reached-all}
+use Rattle.bench_cipher.proofs.EachLaws.{Enciphering, enciphering-none, enciphering-more, enciphering-all}
 use Rattle.bench_cipher.proofs.encipher_all.Statement.{statement}
 use Rattle.bench_cipher.proofs.encipher_all.Tie as tie
 
 abbrev Inv-loop : tie.InvT-loop
-Inv-loop table words rounds blocks₀ at₀ blocks at = Reached (encipheredBy words rounds) blocks₀ blocks at
+Inv-loop table words rounds blocks₀ at₀ blocks at = Enciphering (encipheredBy words rounds) blocks₀ blocks at
 
 abbrev μ-loop : tie.MeasureT-loop
 μ-loop table words rounds blocks₀ at₀ blocks at = length blocks₀ - at
 
 loop-holds : tie.Need-loop-holds Inv-loop μ-loop
-loop-holds c = reached-none _ _
+loop-holds c = enciphering-none _ _
 
 sub-loop : tie.Need-sub-loop Inv-loop μ-loop
 sub-loop c = c .loop .inv .within
@@ -29,10 +29,10 @@ block-at-requires c κs = omega arith
 encipher-by-requires : tie.Need-encipher-by-requires Inv-loop μ-loop
 encipher-by-requires c κs = search needs
 
-put-block-requires : tie.Need-put-block-requires Inv-loop μ-loop
-put-block-requires c κs =
+put-bytes-requires : tie.Need-put-bytes-requires Inv-loop μ-loop
+put-bytes-requires c κs =
     let long = ap length (c .before .encipher-by .ensures) ∙ length-enciphered _ _ _ in
-    (long, omega arith)
+    (long, omega arith, omega arith)
 
 add-at : tie.Need-add-at Inv-loop μ-loop
 add-at c = omega arith
@@ -49,8 +49,8 @@ loop-again c =
     let given = turn .before .before .before .args in
     let e = encipheredBy (given .words .now) (given .rounds) in
     rw
-    (wrote .put-block .ensures, made .encipher-by .ensures, made .before .block-at .ensures)
-    (reached-more e (length-enciphered (given .words .now) (given .rounds)) (given .blocks .now) (loop .blocks) (loop .at) (loop .inv) (omega arith))
+    (wrote .put-bytes .ensures, made .encipher-by .ensures, made .before .block-at .ensures)
+    (enciphering-more e (length-enciphered (given .words .now) (given .rounds)) (given .blocks .now) (loop .blocks) (loop .at) (loop .inv) (omega arith))
 
 same-length : tie.Need-same-length Inv-loop μ-loop
 same-length c = c .before .loop .inv .kept
@@ -59,7 +59,7 @@ returns : tie.Need-returns Inv-loop μ-loop
 returns c =
     let given = c .before .before .before .args in
     let e = encipheredBy (given .words .now) (given .rounds) in
-    reached-all e (length-enciphered (given .words .now) (given .rounds)) (given .blocks .now) _ _ (c .before .loop .inv) (c .loop-test .left)
+    enciphering-all e (length-enciphered (given .words .now) (given .rounds)) (given .blocks .now) _ _ (c .before .loop .inv) (c .loop-test .left)
 
 pub encipher-all-spec : {M : Type 1} → statement M
 encipher-all-spec =
@@ -71,7 +71,7 @@ encipher-all-spec =
     sub-loop
     block-at-requires
     encipher-by-requires
-    put-block-requires
+    put-bytes-requires
     add-at
     loop-less
     loop-again

@@ -1,6 +1,6 @@
 -- `channel::abandon` keeps its promise, refused or done.
 use mathlib.Core.Path.{_∙_, sym}
-use Rattle.channel.specs.State.{endNumber, endOf}
+use Rattle.channel_state.specs.State.{endNumber, endOf}
 use borrow.Author.Needs.{needs}
 use Rattle.channel.proofs.abandon.Statement.{statement}
 use Rattle.channel.proofs.abandon.Tie as tie

@@ -1,9 +1,10 @@
 -- `channel::open` keeps its promise, refused or done.
-use mathlib.Core.Path.{_∙_}
+use mathlib.Core.Path.{_∙_, sym}
+use native.Mathlib.Omega.{arith}
 use lib.ListN.{length}
-use Rattle.answer.proofs.DoneLaws.{was-refused, was-done, if-refused, if-done}
-use Rattle.channel.specs.State.{openingNumber, newChannel, deadChannel, openingOf}
-use Rattle.channel.proofs.StateLaws.{opening-fits}
+use Rattle.answer.proofs.DoneLaws.{was-refused, was-done, when-refused, when-done}
+use Rattle.channel_state.specs.State.{openingNumber, newChannel, deadChannel, openingOf}
+use Rattle.channel_state.proofs.StateLaws.{opening-fits}
 use borrow.Author.Needs.{needs}
 use Rattle.channel.proofs.open.Statement.{statement}
 use Rattle.channel.proofs.open.Tie as tie
@@ -23,14 +24,15 @@ returns c =
     let given = c .before .before .before .before .before .args in
     let n = openingNumber (length (given .key .now)) (given .tag-len) in
     let asked = c .before .before .before .opening-answer .ensures in
-    let refusal = was-refused n asked (c .before .before .is-done .ensures) (c .before .if1 .taken) in
-    record { answer = asked; channel = c .dead .ensures ∙ if-refused n _ deadChannel refusal }
+    let refusal = was-refused _ (c .before .before .is-done .ensures) (c .before .if1 .taken) in
+    record { answer = asked; channel = c .dead .ensures ∙ sym (when-refused n _ deadChannel asked refusal) }
 
 new-channel-requires : tie.Need-new-channel-requires
 new-channel-requires c κs =
     let given = c .before .before .before .before .args in
     let clear = was-done _ (c .before .before .opening-answer .ensures) (c .before .is-done .ensures) (c .if1 .left) in
-    opening-fits (length (given .key .now)) (given .tag-len) clear
+    let fits = opening-fits (length (given .key .now)) (given .tag-len) clear in
+    (fits .0, omega (arith, fits .1))
 
 returns-2 : tie.Need-returns-2
 unfolding openingOf
@@ -39,7 +41,7 @@ returns-2 c =
     let n = openingNumber (length (given .key .now)) (given .tag-len) in
     let asked = c .before .before .before .opening-answer .ensures in
     let clear = was-done n asked (c .before .before .is-done .ensures) (c .before .if1 .left) in
-    record { answer = asked; channel = c .new-channel .ensures ∙ if-done n (newChannel (given .key .now) (given .mark .0) (given .tag-len)) deadChannel clear }
+    record { answer = asked; channel = c .new-channel .ensures ∙ sym (when-done (newChannel (given .key .now) (given .mark .0) (given .tag-len)) deadChannel clear) }
 
 pub open-spec : {M : Type 1} → statement M
 open-spec =

@@ -1,10 +1,6 @@
 -- `gcm::open_allowed` meets its contract: it opens with the round keys that the cipher of the key has.
-use mathlib.Core.Path.{subst}
-use Prim.Native.Nat.{_+_, _/_}
 use native.Mathlib.Omega.{arith}
-use lib.ListN.{length}
-use Rattle.aes.specs.Cipher.{encipheredBy, enciphered}
-use Rattle.gcm.specs.Promise.{OpenedBy}
+use Rattle.aes.proofs.CipherLaws.{by-round-keys}
 use borrow.Author.Needs.{needs}
 use Rattle.gcm.proofs.open_allowed.Statement.{statement}
 use Rattle.gcm.proofs.open_allowed.Tie as tie
@@ -27,15 +23,11 @@ same-length : tie.Need-same-length
 same-length c = search needs
 
 returns : tie.Need-returns
-unfolding enciphered
 returns c =
-    let given = c .before .before .before .before .before .before .before .before .before .before .before .before .before .before .args in
-    let rounds = length (given .key .now) / 4 + 6 in
-    subst
-    (λ words. OpenedBy (encipheredBy words rounds) (given .iv .now) (given .ad .now) (given .tag-len) (given .sealed .now) (given .out .now)
-    (c .before .before .open-by .result) (c .before .before .open-by .last .0))
-    (c .before .before .before .before .before .before .expand .ensures)
-    (c .before .before .open-by .ensures)
+    let made = c .before .before in
+    let expanded = made .before .before .before .before in
+    let key = expanded .before .before .before .before .before .before .before .before .args .key .now in
+    rw (← (by-round-keys key (expanded .expand .ensures))) (made .open-by .ensures)
 
 pub open-allowed-spec : {M : Type 1} → statement M
 open-allowed-spec =

@@ -45,8 +45,8 @@ returns c =
     let start = first .before .before .before .before .before .before in
     let given = start .args in
     refused-in-place _ (length-enciphered (given .words .now) (given .rounds))
-    (given .iv .now) (given .ad .now) (given .sealed .now) (given .out .now) (given .tag-len) (start .pre .1 .1 .1 .0)
-    (first .before .hash-key .ensures) (first .first-block .ensures) (made .tag .ensures)
+    (given .iv .now) (given .ad .now) (given .tag-len) (first .before .hash-key .ensures) (first .first-block .ensures)
+    (given .sealed .now) (given .out .now) (start .pre .1 .1 .1 .0) (made .tag .ensures)
     (part-to-end (given .sealed .now) (length (given .sealed .now) - given .tag-len)) (c .before .same-tag .ensures) (c .if1 .taken)
 
 slice-aggregate-crypt : tie.Need-slice-aggregate-crypt
@@ -69,8 +69,8 @@ returns-2 c =
     let start = first .before .before .before .before .before .before in
     let given = start .args in
     opened-in-place _ (length-enciphered (given .words .now) (given .rounds))
-    (given .iv .now) (given .ad .now) (given .sealed .now) (given .out .now) (given .tag-len) (start .pre .1 .1 .1 .0)
-    (first .before .hash-key .ensures) (first .first-block .ensures) (made .tag .ensures)
+    (given .iv .now) (given .ad .now) (given .tag-len) (first .before .hash-key .ensures) (first .first-block .ensures)
+    (given .sealed .now) (given .out .now) (start .pre .1 .1 .1 .0) (made .tag .ensures)
     (part-to-end (given .sealed .now) (length (given .sealed .now) - given .tag-len)) (on .before .same-tag .ensures) (on .if1 .left)
     (wrote .crypt .ensures)
 

@@ -1,11 +1,6 @@
 -- `gcm::seal_allowed` meets its contract: it seals with the round keys that the cipher of the key has.
-use mathlib.Core.Path.{_∙_, ap}
-use mathlib.Core.List.{_++_}
-use Prim.Native.Nat.{_+_, _/_}
 use native.Mathlib.Omega.{arith}
-use lib.ListN.{length, drop}
-use Rattle.aes.specs.Cipher.{encipheredBy, enciphered}
-use Rattle.mode.specs.Mode.{sealed}
+use Rattle.aes.proofs.CipherLaws.{by-round-keys}
 use borrow.Author.Needs.{needs}
 use Rattle.gcm.proofs.seal_allowed.Statement.{statement}
 use Rattle.gcm.proofs.seal_allowed.Tie as tie
@@ -28,15 +23,11 @@ same-length : tie.Need-same-length
 same-length c = search needs
 
 returns : tie.Need-returns
-unfolding enciphered
 returns c =
-    let given = c .before .before .before .before .before .before .before .before .before .before .before .before .before .before .args in
-    let rounds = length (given .key .now) / 4 + 6 in
-    let text = given .text .now in
-    c .before .before .seal-by .ensures
-    ∙ ap
-    (λ words. sealed (encipheredBy words rounds) (given .iv .now) (given .ad .now) (given .tag-len) text ++ drop (length text + given .tag-len) (given .out .now))
-    (c .before .before .before .before .before .before .expand .ensures)
+    let made = c .before .before in
+    let expanded = made .before .before .before .before in
+    let key = expanded .before .before .before .before .before .before .before .before .args .key .now in
+    rw (← (by-round-keys key (expanded .expand .ensures))) (made .seal-by .ensures)
 
 pub seal-allowed-spec : {M : Type 1} → statement M
 seal-allowed-spec =

@@ -30,8 +30,8 @@ tag-requires c κs =
     let pre = c .before .before .before .before .before .before .before .before .before .before .before .pre in
     (pre .0, (pre .1 .0, (omega (arith, pre .1 .1 .0 .long-ad), simp length-take (omega (arith, pre .1 .1 .0 .long-text)))))
 
-put-tag-requires : tie.Need-put-tag-requires
-put-tag-requires c κs = search needs
+put-bytes-requires : tie.Need-put-bytes-requires
+put-bytes-requires c κs = search needs
 
 same-length : tie.Need-same-length
 same-length c = search needs
@@ -43,9 +43,9 @@ returns c =
     let wrote = made .before .before .before .before in
     let first = wrote .before .before in
     let given = first .before .before .before .before .before .before .args in
-    sealed-in-place _ (length-enciphered (given .words .now) (given .rounds))
-    (given .iv .now) (given .ad .now) (given .text .now) (given .out .now) (given .tag-len)
-    (first .before .hash-key .ensures) (first .first-block .ensures) (wrote .crypt .ensures) (made .tag .ensures) (put .put-tag .ensures)
+    sealed-in-place _ (length-enciphered (given .words .now) (given .rounds)) (given .iv .now) (given .ad .now) (given .tag-len)
+    (first .before .hash-key .ensures) (first .first-block .ensures) (given .text .now) (given .out .now)
+    (wrote .crypt .ensures) (made .tag .ensures) (put .put-bytes .ensures)
 
 pub seal-by-spec : {M : Type 1} → statement M
 seal-by-spec =
@@ -57,6 +57,6 @@ seal-by-spec =
     slice-reshare-prefix-tag
     slice-aggregate-tag
     tag-requires
-    put-tag-requires
+    put-bytes-requires
     same-length
     returns)

@@ -11,14 +11,14 @@ counter-block-requires c κs = omega (arith, c .if1 .taken)
 
 returns : tie.Need-returns
 unfolding firstBlock
-returns c = simp (eq-eqb _ _ (c .before .if1 .taken)) (c .counter-block .ensures)
+returns c = simp (eq-eqb _ 12 (c .before .if1 .taken)) (c .counter-block .ensures)
 
 hashed-first-block-requires : tie.Need-hashed-first-block-requires
 hashed-first-block-requires c κs = search needs
 
 returns-2 : tie.Need-returns-2
 unfolding firstBlock
-returns-2 c = simp (ne-eqb _ _ (c .before .if1 .left)) (c .hashed-first-block .ensures)
+returns-2 c = simp (ne-eqb _ 12 (c .before .if1 .left)) (c .hashed-first-block .ensures)
 
 pub first-block-spec : {M : Type 1} → statement M
 first-block-spec =

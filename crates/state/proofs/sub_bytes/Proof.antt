@@ -28,7 +28,13 @@ sub-column-requires-4 : tie.Need-sub-column-requires-4
 sub-column-requires-4 c κs = search needs
 
 returns : tie.Need-returns
-returns c = cc
+returns c =
+    rw (
+      c .sub-column4 .ensures,
+      c .before .before .sub-column3 .ensures,
+      c .before .before .before .before .sub-column2 .ensures,
+      c .before .before .before .before .before .before .sub-column .ensures,
+    )
 
 pub sub-bytes-spec : {M : Type 1} → statement M
 sub-bytes-spec =

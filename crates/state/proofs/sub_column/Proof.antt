@@ -30,7 +30,13 @@ substitute-requires-4 c κs = search needs
 
 returns : tie.Need-returns
 unfolding substitutedColumn
-returns c = cc
+returns c =
+    rw (
+      c .substitute4 .ensures,
+      c .before .substitute3 .ensures,
+      c .before .before .substitute2 .ensures,
+      c .before .before .before .substitute .ensures,
+    )
 
 pub sub-column-spec : {M : Type 1} → statement M
 sub-column-spec =

@@ -2,7 +2,7 @@
 use Rattle.records.proofs.AnswerLaws.{wrote-fits}
 use Rattle.records.proofs.ServeLaws.{served-none, served-whole}
 use Rattle.vector_lines.specs.Line.{answerLine}
-use Rattle.vector_lines.proofs.AnswerLaws.{record-told}
+use Rattle.vector_lines.proofs.AnswerLaws.{record-remembered}
 use borrow.Author.Needs.{needs}
 use Rattle.vector_chunks.proofs.serve.Statement.{statement}
 use Rattle.vector_chunks.proofs.serve.Tie as tie
@@ -26,7 +26,7 @@ returns c =
     let scan = branch .before .before .scan .ensures in
     let line = answered .answer-record .ensures in (
       rw (c .ready .ensures)
-          (served-whole answerLine scan _ _ _ (wrote-fits line) (branch .if1 .taken) (λ k i a t told. rw (record-told k i a t told) line)),
+          (served-whole answerLine scan _ (wrote-fits line) (branch .if1 .taken) (λ k i a t known. rw (record-remembered k i a t known) line)),
       scan .further,
     )
 

@@ -7,7 +7,7 @@ use native.Mathlib.Omega.{arith}
 use borrow.Author.Needs.{needs}
 use borrow.Author.Tests.{leb-true, leb-false}
 use lib.ListN.{length, length-drop}
-use Rattle.records.specs.Told.{Served}
+use Rattle.records.specs.Remembered.{Served}
 use Rattle.records.proofs.TurnLaws.{served-nothing, served-then}
 use Rattle.vector_lines.specs.Line.{answerLine}
 use Rattle.vector_chunks.proofs.serve_chunk.Statement.{statement}

@@ -1,12 +1,14 @@
 -- `vector_lines::answer_through` meets its contract: a seal that is done leaves its sealed form in front, and one that is refused
 -- has a number.
-use mathlib.Core.Path.{_≡_, sym, _∙_}
+use mathlib.Core.Path.{_≡_, sym, ap, _∙_}
+use mathlib.Core.Bool.{not}
 use Prim.Native.Nat.{_+_, _≤_}
 use native.Mathlib.Omega.{arith}
 use borrow.Author.Needs.{needs}
 use borrow.Author.Tests.{eqb-true}
 use lib.ListN.{length, length-take}
 use Rattle.answer.specs.Number.{numberOf}
+use Rattle.answer.proofs.DoneLaws.{was-refused}
 use Rattle.answer.proofs.NumberLaws.{number-below}
 use Rattle.vector_lines.proofs.AnswerLaws.{done-count, done-line, refused-line}
 use Rattle.vector_lines.proofs.answer_through.Statement.{statement}
@@ -81,7 +83,7 @@ returns-2 c =
     let else = c .before .before .before .before .before in
     let given = else .before .before .before .before .before .before .before .before .before .before .before .before in
     let enough : length (given .args .text .now) + 16 ≤ length (given .args .sealed .now) = omega (arith, given .pre) in
-    let refusal = sym (else .before .is-done .ensures) ∙ else .if1 .left in
+    let refusal = was-refused _ (else .before .is-done .ensures) (ap not (else .if1 .left)) in
     rw
     (refused-line _ _ _ _ _ enough (else .before .before .before .before .seal .ensures) refusal, ← (c .before .before .before .number .ensures))
     (c .before .before .write-number .ensures)

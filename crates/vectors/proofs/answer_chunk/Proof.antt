@@ -7,7 +7,7 @@ use native.Mathlib.Omega.{arith}
 use borrow.Author.Needs.{needs}
 use lib.ListN.{length, take, length-take}
 use lib.Seq.{take-all}
-use Rattle.records.specs.Told.{Followed}
+use Rattle.records.specs.Remembered.{Followed}
 use Rattle.records.specs.Reading.{after}
 use Rattle.records.proofs.TurnLaws.{followed-then}
 use Rattle.vectors.proofs.answer_chunk.Statement.{statement}
@@ -24,7 +24,7 @@ abbrev μ-loop : tie.MeasureT-loop
 
 loop-holds : tie.Need-loop-holds Inv-loop μ-loop
 unfolding after
-loop-holds c = (refl, zero-le, λ state told. told)
+loop-holds c = (refl, zero-le, λ state known. known)
 
 serve-chunk-requires : tie.Need-serve-chunk-requires Inv-loop μ-loop
 serve-chunk-requires c κs = search needs
@@ -56,7 +56,7 @@ loop-again c =
     let inv = served .before .before .before .before .before .before .before .loop .inv in (
       service .kept .0 ∙ inv .0,
       service .ensures .0 .within (inv .1),
-      followed-then _ _ _ (service .ensures .0 .reached) (inv .2) (service .ensures .0 .tells),
+      followed-then _ _ _ (service .ensures .0 .reached) (inv .2) (service .ensures .0 .remembers),
     )
 
 same-length-2 : tie.Need-same-length-2 Inv-loop μ-loop

@@ -9,7 +9,7 @@ use borrow.Author.Needs.{needs}
 use lib.ListN.{length, getD, set, length-set}
 use lib.Seq.{paste, paste-zero, paste-suc}
 use Rattle.hex.specs.Hex.{hexDigit, encoded}
-use Rattle.hex.proofs.HexLaws.{length-encoded, high-at, low-at}
+use Rattle.hex.proofs.HexLaws.{length-encoded, digits-at}
 use Rattle.hex.proofs.digits.write_hex.Statement.{statement}
 use Rattle.hex.proofs.digits.write_hex.Tie as tie
 
@@ -21,8 +21,9 @@ more : (out₀ bytes out : List ℕ) (at i h l : ℕ) → at + length bytes * 2 
 more out₀ bytes out at i h l room in-bytes high low so-far =
     let s = encoded bytes in
     let long : length s ≡ length bytes * 2 = length-encoded bytes in
-    let first = high ∙ sym (high-at bytes i in-bytes) in
-    let second = low ∙ sym (low-at bytes i in-bytes) ∙ ap (λ n. getD s n 0) (add-one (i * 2)) in
+    let digits = digits-at bytes i in-bytes in
+    let first = high ∙ sym (digits .0) in
+    let second = low ∙ sym (digits .1) ∙ ap (λ n. getD s n 0) (add-one (i * 2)) in
     let place : at + i * 2 + 1 ≡ at + suc (i * 2) = omega arith in
     let next : (i + 1) * 2 ≡ suc (suc (i * 2)) = omega arith in
     rw (place, next, so-far, first, second, paste-suc out₀ at s (i * 2) 0 (omega arith) (omega arith))

@@ -1,4 +1,4 @@
--- `records::machine::scan` meets its contract. The invariant: whatever the machine told of at first, it tells now of a state
+-- `records::machine::scan` meets its contract. The invariant: whatever the machine remembered at first, it remembers now a state
 -- from which the bytes to come make what was asked.
 use Prim.Native.Nat.{_-_}
 use native.Mathlib.Omega.{arith}

@@ -1,9 +1,9 @@
 -- `records::machine::take_byte` meets its contract: each way out is a byte taken for one field.
-use mathlib.Core.Path.{_≡_, _∙_, ap}
+use mathlib.Core.Path.{_≡_, refl, _∙_, ap}
 use native.Mathlib.Omega.{arith}
 use borrow.Author.Needs.{needs}
 use Rattle.records.specs.Kept.{withLine, fieldOf}
-use Rattle.records.proofs.TookLaws.{took-end, took-key, took-iv, took-ad, took-text}
+use Rattle.records.proofs.TookLaws.{took-end, took-digit}
 use Rattle.records.proofs.machine.take_byte.Statement.{statement}
 use Rattle.records.proofs.machine.take_byte.Tie as tie
 
@@ -11,7 +11,7 @@ end-line-requires : tie.Need-end-line-requires
 end-line-requires c κs = search needs
 
 returns : tie.Need-returns
-returns c = took-end _ _ _ _ _ _ _ (c .before .if1 .taken) (c .end-line .ensures)
+returns c = took-end (c .before .if1 .taken) (c .end-line .ensures)
 
 feed-requires : tie.Need-feed-requires
 feed-requires c κs = search needs
@@ -25,7 +25,7 @@ returns-2 c =
     let digit = c .before .before .before .before .before .if1 .left in
     let field : fieldOf m ≡ 0 = omega arith in
     let next = c .with-line .ensures ∙ ap (withLine m) (c .before .feed .ensures .0) in
-    took-key _ _ _ _ _ _ _ digit next _ field (c .before .feed .ensures .1)
+    took-digit 0 digit next field (c .before .feed .ensures .1) refl refl refl
 
 feed-requires-2 : tie.Need-feed-requires-2
 feed-requires-2 c κs = search needs
@@ -39,7 +39,7 @@ returns-3 c =
     let digit = c .before .before .before .before .before .before .if1 .left in
     let field : fieldOf m ≡ 1 = omega arith in
     let next = c .with-line2 .ensures ∙ ap (withLine m) (c .before .feed2 .ensures .0) in
-    took-iv _ _ _ _ _ _ _ digit next _ field (c .before .feed2 .ensures .1)
+    took-digit 1 digit next field refl (c .before .feed2 .ensures .1) refl refl
 
 feed-requires-3 : tie.Need-feed-requires-3
 feed-requires-3 c κs = search needs
@@ -53,7 +53,7 @@ returns-4 c =
     let digit = c .before .before .before .before .before .before .before .if1 .left in
     let field : fieldOf m ≡ 2 = omega arith in
     let next = c .with-line3 .ensures ∙ ap (withLine m) (c .before .feed3 .ensures .0) in
-    took-ad _ _ _ _ _ _ _ digit next _ field (c .before .feed3 .ensures .1)
+    took-digit 2 digit next field refl refl (c .before .feed3 .ensures .1) refl
 
 feed-requires-4 : tie.Need-feed-requires-4
 feed-requires-4 c κs = search needs
@@ -67,7 +67,7 @@ returns-5 c =
     let digit = c .before .before .before .before .before .before .before .if1 .left in
     let field : fieldOf m ≡ 3 = omega arith in
     let next = c .with-line4 .ensures ∙ ap (withLine m) (c .before .feed4 .ensures .0) in
-    took-text _ _ _ _ _ _ _ digit next _ field (c .before .feed4 .ensures .1)
+    took-digit 3 digit next field refl refl refl (c .before .feed4 .ensures .1)
 
 pub take-byte-spec : {M : Type 1} → statement M
 take-byte-spec =

@@ -1,0 +1,4 @@
+pub mod AgainLaws
+pub mod LentLaws
+pub mod LocalsLaws
+pub mod WalkLaws
