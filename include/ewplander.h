@@ -13,7 +13,8 @@
  *   - Buffers that are written to overlap no other argument.
  *   - The answer is one of EWPLANDER_..., EWPLANDER_DONE being 0. Where several refusals apply, the lowest number is answered; a
  *     call on a channel looks at the phase (EWPLANDER_WRONG_PHASE) before all else.
- *   - A refused call alters no byte of an output, leaves a channel as it was, and stores a count of 0 or a tag of zeros.
+ *   - A refused call alters no byte of an output, and stores a count of 0 or a tag of zeros. It leaves a channel as it was, but for
+ *     a refused opening, which stores the dead channel.
  *
  * No call keeps a pointer, allocates, or has state of its own. Calls may run at the same time on different channels. No promise is
  * made of the time that a call takes, nor of what it leaves in memory that it is done with.
@@ -88,7 +89,9 @@ uint32_t ewplander_open(const uint8_t *key, size_t key_len, const uint8_t *iv, s
  *   - No older state is given again: no copy of a channel is fed after the channel itself went on.
  *   - The key is not used with ewplander_seal() besides.
  *
- * Then no block goes through the cipher twice under one key, over any calls whatever, and channels of different marks share none.
+ * Then the cipher input blocks of all messages differ and none is zero, over any calls whatever, and channels of one key and
+ * different marks share none. A message's input blocks are its first counter block, which makes the tag, and one for each sixteen
+ * bytes of its text, the last perhaps in part; a piece that goes on inside a block enciphers that block's once more.
  */
 typedef struct {
     uint64_t high;

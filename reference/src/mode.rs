@@ -1,12 +1,12 @@
 //! Galois/Counter Mode (SP 800-38D, section 7): sealing and opening at once, with the refusals of
-//! document 01.
+//! rules R2.1 to R2.8.
 
 use crate::cipher::Key;
 use crate::hash::{hash, length_block};
 use crate::{xor, Block};
 use std::ops::RangeInclusive;
 
-/// The answers, by document 01's numbers.
+/// The answers, by the numbers of rules R2.0 to R2.8.
 pub const DONE: u8 = 0;
 pub const KEY_LENGTH: u8 = 1;
 pub const IV_LENGTH: u8 = 2;

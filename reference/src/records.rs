@@ -1,4 +1,5 @@
-//! Document 01's vector program: records of four lines in hex, and the line that answers each.
+//! The vector program of rules R13.1 to R13.9: records of four lines in hex, and the line that
+//! answers each.
 
 use crate::mode::seal_vec;
 

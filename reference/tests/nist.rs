@@ -1,7 +1,7 @@
 //! NIST's published GCM vectors, every case of the four files.
 //!
-//! Document 01 refuses tags under 12 bytes: cases with such a tag are left out of the comparison,
-//! and must be refused.
+//! Rule R2.3 (row 3, tag length) refuses tags under 12 bytes: cases with such a tag are left out of
+//! the comparison, and must be refused.
 
 use reference::mode::{open, seal, DONE, TAG_DIFFERS, TAG_LENGTH, TAG_LENGTHS};
 use reference::nist::{cases, Case};

@@ -1,12 +1,12 @@
-//! The vector program's answers at the edges of document 01's last section.
+//! The vector program's answers at the edges of rules R13.1 to R13.9.
 
 use reference::records::{answers, LONGEST_FIELD};
 
-/// The key and the IV of 01's whole case, as lines.
+/// The key and the IV of rule R13.9 (whole case), as lines.
 const KEY: &str = "00000000000000000000000000000000\n";
 const IV: &str = "000000000000000000000000\n";
 
-/// The answer to 01's whole case.
+/// The answer that rule R13.9 (whole case) gives.
 const WHOLE: &str = "0 58e2fccefa7e3061367f1d57a4e7455a\n";
 
 /// What is written for these lines.

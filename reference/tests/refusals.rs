@@ -1,4 +1,4 @@
-//! Document 01's table of answers for sealing and opening: each row at its limit, and the rows in
+//! The answers to sealing and opening, rules R2.0 to R2.8: each row at its limit, and the rows in
 //! their order.
 
 use reference::mode::{open, open_vec, seal, seal_vec};
@@ -224,8 +224,9 @@ fn opening_gives_the_lowest_row() {
     }
 }
 
+/// Two cases of rule R10.14 (lengths at their limits).
 #[test]
-fn document_01_names_these() {
+fn named_cases() {
     let (iv, text) = ([0; 12], [0; 16]);
     assert_eq!(seal_vec(&[0; 24], &iv, &[], &text, 11), Err(1));
     assert_eq!(open_vec(&[0; 24], &iv, &[], &text, 11), Err(1));

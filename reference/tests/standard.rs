@@ -1,4 +1,4 @@
-//! The standards' own examples, and document 01's numbers to check by.
+//! The standards' own examples, and the numbers to check by: rules R10.2 to R10.8, R10.12, R10.13.
 
 use reference::cipher::Key;
 use reference::field8;

@@ -1,4 +1,4 @@
--- The number of each answer in document 01.
+-- The number of each answer: rules R2.0 (done) to R2.11 (row 11, used).
 use Prim.Native.Nat.{ℕ, zero, suc}
 use Rattle.answer.specs.declared.Answer.{Answer}
 use Rattle.answer.specs.declared.Answer.the-variants.{

@@ -3,7 +3,7 @@ ghost use mathlib.Core.Path.{_≡_};
 ghost use lib.Dec.{eqb};
 ghost use Rattle.answer.specs.Number.{numberOf};
 
-// What a call answers; document 01 numbers them from 0, in this order.
+// What a call answers. Rules R2.0 (done) to R2.11 (row 11, used) number them, in this order.
 pub enum Answer {
     Done,
     // The key does not have 16 or 32 bytes.
@@ -36,7 +36,7 @@ pub struct Outcome {
     pub count: usize,
 }
 
-// The answer's number in document 01.
+// The answer's number, by rules R2.0 to R2.11.
 pub fn number(a: Answer) -> u8
     ensures { λ r. ⌜ r ≡ numberOf a ⌝ }
 {

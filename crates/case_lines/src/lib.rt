@@ -10,7 +10,7 @@ pub fn say(words: &[u8]) {
     io::write_all(STDOUT_FILENO, words);
 }
 
-// A call's answer, by document 01's number.
+// A call's answer, by its number (rules R2.0 to R2.11).
 pub fn say_answer(a: Answer) {
     say(b" ");
     io::print_decimal(STDOUT_FILENO, number(a) as u64);

@@ -1,4 +1,5 @@
-// Document 01's cases: each is run, and written as a line behind its name, bytes in hex.
+// The cases that are run, rules R10.9 (the window) to R10.14 (lengths at their limits) among them: a line behind each one's
+// name, bytes in hex.
 use case_lines::write_line;
 
 // As many zeros as the longest case takes, and an output for the longest that is sealed.

@@ -1,4 +1,4 @@
-// The channel's cases: a line has what each call answered, by document 01's numbers.
+// The channel's cases: a line has what each call answered, by the numbers of rules R2.0 to R2.11.
 //
 // Zeros enough for every length are lent by the program.
 use case_lines::front;

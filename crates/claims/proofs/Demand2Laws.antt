@@ -96,10 +96,10 @@ pub runs-are-the-calls : RunsAreTheCalls
 unfolding after
 runs-are-the-calls =
     record {
-      begun = λ c n ad r kept. kept .channel;
-      fed = λ c piece out r left kept. (kept .channel, kept .bytes ∙ feed-writes c piece out);
-      finished = λ c r kept. (kept .channel, kept .tag);
-      abandoned = λ c r kept. kept .channel;
+      begun = λ c n ad r kept. (kept .answer, kept .channel);
+      fed = λ c piece out r left kept. (kept .answer, kept .channel, kept .bytes ∙ feed-writes c piece out);
+      finished = λ c r kept. (kept .answer, kept .channel, kept .tag);
+      abandoned = λ c r kept. (kept .answer, kept .channel);
     }
 
 pub cut-anywhere-is-the-whole : CutAnywhereIsTheWhole

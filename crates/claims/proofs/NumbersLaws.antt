@@ -1,4 +1,4 @@
--- The document's numbers to check by, computed: both sides of each row come to the same list.
+-- The numbers to check by (rules R10.2 to R10.9), computed: both sides of each row come to the same list.
 use mathlib.Core.Path.{refl}
 use Rattle.octets.specs.Block.{blockBytes}
 use Rattle.byte_field.specs.Field.{doubled, multiples, squares, inverse, product as byteProduct}

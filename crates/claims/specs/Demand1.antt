@@ -1,6 +1,6 @@
--- Demand 1: any key, IV, associated data, text and buffer of any length may be handed in, and every call answers by the rows of
--- document 01. That each call ends without a fault is what the checker shows of every function, and no contract of a public call
--- has a condition. Here is what their promises say.
+-- Demand 1 (rule R8.1): any key, IV, associated data, text and buffer of any length may be handed in, and every call answers by
+-- its rows (rules R2.1 to R2.11). That each call ends without a fault is what the checker shows of every function, and no
+-- contract of a public call has a condition. Here is what their promises say.
 use mathlib.Core.Path.{_≡_}
 use mathlib.Core.Bool.{Bool, true, false, not}
 use mathlib.Core.List.{List, [], _∷_}

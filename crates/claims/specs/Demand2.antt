@@ -18,7 +18,7 @@ use Rattle.channel_state.specs.declared.Channel.{Channel}
 use Rattle.channel.specs.declared.Step.{Step}
 use Rattle.channel.specs.declared.Fed.{Fed}
 use Rattle.channel.specs.declared.Finished.{Finished}
-use Rattle.channel_state.specs.State.{idle, newChannel, openingNumber, beginNumber, beginOf, endNumber, tagOut}
+use Rattle.channel_state.specs.State.{idle, newChannel, openingNumber, beginNumber, beginOf, feedNumber, endNumber, tagOut}
 use Rattle.channel.specs.Promise.{BeginPromise, FeedPromise, FinishPromise, AbandonPromise}
 use Rattle.runs.specs.Run.{
   Call,
@@ -44,11 +44,11 @@ use Rattle.runs.specs.Run.{
 
 -- ---- sealing
 
--- the key, IV and tag lengths that document 01 allows
+-- the key, IV and tag lengths that rules R2.1, R2.2 and R2.3 (rows 1 to 3) let pass
 abbrev pub Allowed : ℕ → ℕ → ℕ → Type 0
 Allowed key iv tag = ((key ≡ 16) ⊎ (key ≡ 32)) × ((1 ≤ iv) × (iv ≤ longestIv)) × ((12 ≤ tag) × (tag ≤ 16))
 
--- Sealing is AES-GCM as SP 800-38D and FIPS 197 define it, for every key, IV and tag length that document 01 allows: where
+-- Sealing is AES-GCM as SP 800-38D and FIPS 197 define it, for every key, IV and tag length that the rules let pass: where
 -- associated data and text are within their limits and the output has room, it is done, and its bytes are the sealed form.
 abbrev pub SealIsAesGcm : Type 0
 SealIsAesGcm =
@@ -95,17 +95,23 @@ OpenGivesTheTextBack =
 
 -- ---- pieces
 
--- The channel that each call hands back, a feed's bytes and a finish's tag are those that the claims on lists of calls speak of.
+-- Each call's answer, the channel that it hands back, a feed's bytes and a finish's tag are those that the claims on lists of calls
+-- speak of: an accepted begin or feed is one that answered 0.
 pub record RunsAreTheCalls : Type 0 where
   pub begun : (channel : Channel) (number : ℕ) (ad : List ℕ) (result : Step) → BeginPromise channel number ad result
-      → result .channel ≡ after channel (begin number ad)
+      → (numberOf (result .answer) ≡ beginNumber channel number (length ad))
+      × (result .channel ≡ after channel (begin number ad))
   pub fed : (channel : Channel) (piece out : List ℕ) (result : Fed) (left : List ℕ) → FeedPromise channel piece out result left
       → let bytes = wrote channel (feed piece (length out)) in
-      (result .channel ≡ after channel (feed piece (length out))) × (left ≡ bytes ++ drop (length bytes) out)
+      (numberOf (result .answer) ≡ feedNumber channel (length piece) (length out))
+      × (result .channel ≡ after channel (feed piece (length out)))
+      × (left ≡ bytes ++ drop (length bytes) out)
   pub finished : (channel : Channel) (result : Finished) → FinishPromise channel result
-      → (result .channel ≡ after channel finish) × (result .tag ≡ tagOut channel)
+      → (numberOf (result .answer) ≡ endNumber channel)
+      × (result .channel ≡ after channel finish)
+      × (result .tag ≡ tagOut channel)
   pub abandoned : (channel : Channel) (result : Step) → AbandonPromise channel result
-      → result .channel ≡ after channel abandon
+      → (numberOf (result .answer) ≡ endNumber channel) × (result .channel ≡ after channel abandon)
 
 -- A channel message cut anywhere has the bytes of the whole sealed at once: begun at any point after an opening and fed any pieces,
 -- empty ones too, it can be finished, and its bytes and the tag cut to its length are the sealed form of the joined text.

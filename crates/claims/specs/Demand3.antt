@@ -1,22 +1,25 @@
 -- Demand 3: over any calls on a channel, a number is judged by those accepted before it, and no cipher input block comes twice.
--- Its premises are document 01's: no older state is given again, one key and mark open one channel, and the key is not used
--- besides. So a list of calls starts at a new channel, and each call takes the channel of the one before.
+-- Its premises are rules R7.2 to R7.4: no older state is given again, one key and mark open one channel, and the key is not
+-- used besides. So a list of calls starts at a new channel, and each call takes the channel of the one before.
 use mathlib.Core.Path.{_≡_}
 use mathlib.Core.Bool.{false}
 use mathlib.Core.List.{List, [], map}
 use Prim.Native.Nat.{ℕ, _<_, _≤_}
-use lib.ListN.{length, getD, drop, replicate}
+use lib.Bits.{bitXor}
+use lib.ListN.{length, getD, take, drop, replicate}
 use Rattle.answer.specs.Number.{numberOf}
-use Rattle.octets.specs.Block.{blocksFor}
+use Rattle.octets.specs.Block.{numberAt, blockBytes, blocksFor}
 use Rattle.octets.specs.Bytes.{xored, joined}
 use Rattle.aes.specs.Cipher.{enciphered}
+use Rattle.ghash.specs.Hash.{hash}
 use Rattle.ledger.specs.Ledger.{Tells}
-use Rattle.mode.specs.Mode.{hashKey, firstBlock}
+use Rattle.mode.specs.Mode.{hashKey, firstBlock, hashedBlocks}
 use Rattle.counter.specs.Counter.{inputs}
 use Rattle.rows.specs.Rows.{longestText, adBad}
 use Rattle.channel.specs.declared.Step.{Step}
+use Rattle.channel.specs.declared.Finished.{Finished}
 use Rattle.channel_state.specs.State.{busy, openingNumber, newChannel}
-use Rattle.channel.specs.Promise.{BeginPromise}
+use Rattle.channel.specs.Promise.{BeginPromise, FinishPromise}
 use Rattle.runs.specs.Run.{
   Call,
   run,
@@ -24,6 +27,7 @@ use Rattle.runs.specs.Run.{
   messages,
   accepted,
   Judged,
+  Newest,
   Every,
   inputsOf,
   inputBlocks,
@@ -55,11 +59,23 @@ abbrev pub MadeOfItsBlocks : List ℕ → List ℕ → Sent → Type 0
 MadeOfItsBlocks key mark m =
     m .bytes ≡ xored (m .text) (joined (map (enciphered key) (drop 1 (inputsOf (hashKey (enciphered key)) mark m))))
 
--- The blocks that the claims below speak of are those that are really enciphered.
-abbrev pub MessagesAreMadeOfTheirBlocks : Type 0
-MessagesAreMadeOfTheirBlocks =
-    (key mark : List ℕ) (tag : ℕ) → openingNumber (length key) tag ≡ 0
-    → (calls : List Call) → Every (MadeOfItsBlocks key mark) (messages (newChannel key mark tag) calls)
+-- the leading t bytes of a tag are those of the message's hash, over associated data, ciphertext and lengths, xor its first input
+-- block enciphered
+abbrev pub TaggedByItsFirstBlock : List ℕ → List ℕ → ℕ → List ℕ → Sent → Type 0
+TaggedByItsFirstBlock key mark t tag m =
+    let h = hashKey (enciphered key) in
+    let first = getD (inputsOf h mark m) 0 [] in
+    take t tag ≡ take t (blockBytes (bitXor (hash h (hashedBlocks (m .ad) (m .bytes))) (numberAt (enciphered key first) 0)))
+
+-- The blocks that the claims below speak of are those that are really enciphered. Over any calls, each message's bytes are made of
+-- all its blocks but the first; and where a finish answers 0, its tag, cut to its length, is made of the first, J.
+pub record MessagesAreMadeOfTheirBlocks : Type 0 where
+  pub bytes : (key mark : List ℕ) (tag : ℕ) → openingNumber (length key) tag ≡ 0
+      → (calls : List Call) → Every (MadeOfItsBlocks key mark) (messages (newChannel key mark tag) calls)
+  pub tags : (key mark : List ℕ) (tag : ℕ) → openingNumber (length key) tag ≡ 0
+      → (calls : List Call) (result : Finished) → FinishPromise (run (newChannel key mark tag) calls) result
+      → numberOf (result .answer) ≡ 0
+      → Newest (TaggedByItsFirstBlock key mark tag (result .tag)) (messages (newChannel key mark tag) calls)
 
 -- The cipher input blocks of all messages all differ, also of those abandoned or still open (a message number has 64 bits),
 abbrev pub BlocksOfAllMessagesDiffer : Type 0

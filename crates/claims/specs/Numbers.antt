@@ -1,4 +1,4 @@
--- Document 01's numbers to check by, those marked P: what the definitions themselves give, and what the document says.
+-- The numbers to check by that are proved, rules R10.2 to R10.9: what the definitions themselves give, and what the rules say.
 use mathlib.Core.Path.{_≡_}
 use mathlib.Core.List.{List, [], _∷_, _++_}
 use Prim.Native.Nat.{ℕ}
@@ -15,7 +15,7 @@ use Rattle.channel_state.specs.declared.Channel.{Channel}
 use Rattle.channel_state.specs.State.{newChannel, beginNumber, beginOf, endOf}
 
 infix 2 _gives_
--- a row: what a definition gives, and what the document says that it gives
+-- a row: what a definition gives, and what its rule says that it gives
 pub record Row : Type 0 where
   pub given : List ℕ
   pub said : List ℕ
@@ -32,11 +32,11 @@ unfoldable pub answersTo : Channel → List ℕ → List ℕ
 answersTo c [] = []
 answersTo c (n ∷ later) = beginNumber c n 0 ∷ answersTo (endOf (beginOf c n [])) later
 
--- the station's mark in the document's example
+-- the station's mark in rule R10.8 (first block)
 abbrev pub mark : List ℕ
 mark = 0x0a ∷ 0x0b ∷ 0x0c ∷ 0x0d ∷ []
 
--- the document's rows, in its order
+-- rules R10.2 to R10.9, in their order
 abbrev pub table : List Row
 table =
     -- substitution of 00 is 63, of 53 is ed
@@ -58,11 +58,11 @@ table =
     ∷ (answersTo (newChannel (replicate 16 0x00) mark 16) (200 ∷ 72 ∷ 73 ∷ 73 ∷ []) gives 0 ∷ 10 ∷ 0 ∷ 11 ∷ [])
     ∷ []
 
--- in each of these rows the definition gives what the document says
+-- in each of these rows the definition gives what the rule says
 abbrev pub AllHold : List Row → Type 0
 AllHold [] = Unit
 AllHold (row ∷ rows) = (row .given ≡ row .said) × AllHold rows
 
--- The definitions give the document's numbers, row by row.
+-- The definitions give the rules' numbers, row by row.
 abbrev pub EveryRowHolds : Type 0
 EveryRowHolds = AllHold table

@@ -1,4 +1,4 @@
-// Ewplander for C and Rust: each call is the one by value, with the answer as document 01's number.
+// Ewplander for C and Rust: each call is the one by value, with the answer as its number (rules R2.0 to R2.11).
 use answer::number;
 use channel_state::Channel;
 ghost use Rattle.told.specs.Call.{OpeningCall, BeginCall, FeedCall, FinishCall, AbandonCall};

@@ -1,4 +1,4 @@
-// AES-GCM at once: SP 800-38D's mode over FIPS 197's cipher. Any lengths may be handed in; document 01's rows refuse bad ones.
+// AES-GCM at once: SP 800-38D's mode over FIPS 197's cipher. Any lengths may be handed in; rules R2.1 to R2.7 refuse bad ones.
 use answer::Answer;
 use answer::Outcome;
 use answer::is_done;

@@ -1,4 +1,4 @@
--- What document 01 says of a number, from the whole list of numbers accepted before it, in any order.
+-- What rules R6.5 (stale) and R6.6 (used) say of a number, from the whole list of numbers accepted before it, in any order.
 use mathlib.Core.Bool.{Bool, false, _||_, cond}
 use mathlib.Core.List.{List, [], _∷_}
 use Prim.Native.Nat.{ℕ, _+_, max}

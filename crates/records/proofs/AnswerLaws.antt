@@ -6,8 +6,8 @@ use native.Mathlib.Nat.{zero-add, le-of-eq}
 use native.Mathlib.Numerals.{add-one}
 use native.Mathlib.Omega.{arith}
 use borrow.Author.Tests.{lt-ltb, le-ltb}
-use lib.ListN.{length, getD, drop, set, length-append}
-use lib.Seq.{sets, sets-eq, paste, take-all, drop-cons, set-at, append-snoc}
+use lib.ListN.{length, getD, take, drop, set, length-append}
+use lib.Seq.{sets, sets-eq, paste, take-all, take-at, drop-cons, set-at, append-snoc}
 use Rattle.hex.specs.Hex.{encoded}
 use Rattle.records.specs.Records.{lineFeed}
 use Rattle.records.specs.Answers.{sealedLine, numberLine, Wrote}
@@ -18,6 +18,11 @@ wrote-nothing out = record { counts = refl; front = refl }
 
 pub wrote-fits : {line was now : List ℕ} {count : ℕ} → Wrote line was now count → count ≤ length now
 wrote-fits wrote = rw (wrote .counts, wrote .front, length-append) (omega arith)
+
+-- the line is what was counted of the output
+pub wrote-line : {line was now : List ℕ} {count : ℕ} → Wrote line was now count → take count now ≡ line
+wrote-line {line} {was} {now} {count} wrote =
+    ap (take count) (wrote .front) ∙ take-at line (drop (length line) was) count (sym (wrote .counts))
 
 pub wrote-bytes : (line was : List ℕ) → length line ≤ length was → Wrote line was (sets was 0 line) (length line)
 wrote-bytes line was fits =

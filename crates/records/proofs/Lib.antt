@@ -1,5 +1,6 @@
 pub mod AnswerLaws
 pub mod ChunkLaws
+pub mod InputLaws
 pub mod ScanLaws
 pub mod ServeLaws
 pub mod TookLaws

@@ -6,13 +6,13 @@ use Prim.Native.Nat.{ℕ, _+_, _-_, _≤_, zero-le}
 use native.Mathlib.Nat.{le-refl}
 use native.Mathlib.Omega.{arith}
 use lib.ListN.{length, take, drop, length-append, length-drop, take-append-drop}
-use lib.Seq.{take-add, drop-drop, take-at, drop-at}
+use lib.Seq.{take-add, drop-drop, drop-at}
 use Rattle.records.specs.Records.{Answering}
 use Rattle.records.specs.Reading.{after, written}
 use Rattle.records.specs.Answers.{Wrote}
-use Rattle.records.specs.Remembered.{bytesFrom, Followed, Served}
+use Rattle.records.specs.Remembered.{bytesFrom, Served}
 use Rattle.records.specs.declared.machine.Machine.{Machine}
-use Rattle.records.proofs.AnswerLaws.{wrote-nothing}
+use Rattle.records.proofs.AnswerLaws.{wrote-nothing, wrote-line}
 use Rattle.records.proofs.ChunkLaws.{after-append, written-append}
 
 bytes-none : (chunk : List ℕ) (at : ℕ) → bytesFrom chunk at at ≡ []
@@ -34,13 +34,12 @@ wrote-then : {line next was now now′ : List ℕ} {count extra : ℕ} → Wrote
     → Wrote next (drop count now) (drop count now′) extra → take count now′ ≡ take count now
     → Wrote (line ++ next) was now′ (count + extra)
 wrote-then {line} {next} {was} {now} {now′} {count} {extra} first second kept =
-    let front = ap (take count) (first .front) ∙ take-at line (drop (length line) was) count (sym (first .counts)) in
     let behind = ap (drop count) (first .front) ∙ drop-at line (drop (length line) was) count (sym (first .counts)) in
     record {
       counts = ap₂ (λ a b. a + b) (first .counts) (second .counts) ∙ sym (length-append line next);
       front =
           sym (take-append-drop count now′)
-          ∙ ap₂ (λ a b. a ++ b) (kept ∙ front) (second .front ∙ ap (λ s. next ++ drop (length next) s) behind)
+          ∙ ap₂ (λ a b. a ++ b) (kept ∙ wrote-line first) (second .front ∙ ap (λ s. next ++ drop (length next) s) behind)
           ∙ ap (λ s. line ++ (next ++ s)) (drop-drop (length next) (length line) was ∙ ap (λ n. drop n was) (sym (length-append line next)))
           ∙ sym (append-assoc line next (drop (length (line ++ next)) was));
     }
@@ -77,13 +76,3 @@ module _ (answer : Answering) {m : Machine} {key iv ad text : List ℕ} (chunk :
         reached = omega (arith, first .reached, second .reached);
         within = λ h. second .within (first .within h);
       }
-
--- the machine behind a service is the one behind the bytes in front of it and those that it took in
-pub followed-then : {m m′ m″ : Machine} {key iv ad text key′ iv′ ad′ text′ key″ iv″ ad″ text″ : List ℕ} (chunk : List ℕ) (mid end : ℕ)
-    → mid ≤ end → Followed m key iv ad text (take mid chunk) m′ key′ iv′ ad′ text′
-    → Followed m′ key′ iv′ ad′ text′ (bytesFrom chunk mid end) m″ key″ iv″ ad″ text″
-    → Followed m key iv ad text (take end chunk) m″ key″ iv″ ad″ text″
-followed-then chunk mid end order first second state known =
-    let there : mid + (end - mid) ≡ end = omega arith in
-    let bytes = ap (λ n. take n chunk) (sym there) ∙ take-add mid (end - mid) chunk in
-    rw (bytes, after-append state (take mid chunk) (bytesFrom chunk mid end)) (second (after state (take mid chunk)) (first state known))

@@ -1,4 +1,5 @@
 pub mod Answers
+pub mod Input
 pub mod Kept
 pub mod Reading
 pub mod Records

@@ -47,8 +47,8 @@ first-lowest (false ∷ facts) start (suc k) holds before =
 suc-sub-one : (m : ℕ) → suc m - 1 ≡ m
 suc-sub-one m = omega arith
 
--- the answer by a list of facts is n exactly when fact n holds and no earlier one does; facts are counted from 1, as document
--- 01's rows are
+-- the answer by a list of facts is n exactly when fact n holds and no earlier one does; facts are counted from 1, as rows are (rule
+-- R3.3, exactly when)
 pub lowest-exactly : (facts : List Bool) {a : ℕ} → a ≡ lowest 1 facts → (n : ℕ) → 0 < n → (a ≡ n) ↔ Applies facts n
 lowest-exactly facts {a} is n p = (forth, back)
   where

@@ -1,4 +1,4 @@
--- The rows of document 01's table of answers that sealing and opening at once can give, as facts about lengths.
+-- The rows that sealing and opening at once can give (rules R2.1 to R2.8), as facts about lengths.
 use mathlib.Core.Path.{_≡_}
 use mathlib.Core.Bool.{Bool, true, false, not, _&&_, _||_}
 use mathlib.Core.List.{List, [], _∷_, _++_}
@@ -6,7 +6,7 @@ use Prim.Native.Nat.{ℕ, suc, _+_, _-_, _<_}
 use lib.Dec.{eqb, ltb}
 use lib.ListN.{getD}
 
--- the house limits, in bytes
+-- the house limits, in bytes (rules R2.2, R2.4 and R2.5)
 abbrev pub longestIv : ℕ
 longestIv = 128
 

@@ -1,4 +1,4 @@
-// Document 01's rows of refusals, as tests on lengths: the lowest row that applies is answered.
+// The rows of refusals (rules R2.1 to R2.7), as tests on lengths: the lowest that applies is answered (rule R3.2).
 use answer::Answer;
 use answer::is_done;
 ghost use mathlib.Core.Path.{_≡_};

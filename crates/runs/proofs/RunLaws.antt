@@ -285,7 +285,8 @@ begin-exactly key mark t calls n ad free fits =
 
 -- ---- the bytes
 
-crypted-opened : (key mark : List ℕ) (t : ℕ) → openingNumber (length key) t ≡ 0 → (m : Sent) → CryptedIn (newChannel key mark t) m
+-- The bytes of a message are the ciphertext of its text under the opened key.
+pub crypted-opened : (key mark : List ℕ) (t : ℕ) → openingNumber (length key) t ≡ 0 → (m : Sent) → CryptedIn (newChannel key mark t) m
     → Crypted key mark m
 crypted-opened key mark t opened m is =
     let start = newChannel key mark t in

@@ -1,4 +1,4 @@
-// The cases of seal and open: a line has what each call answered, by document 01's numbers, and its output.
+// The cases of seal and open: a line has what each call answered, by the numbers of rules R2.0 to R2.8, and its output.
 //
 // Zeros enough for every length are lent by the program.
 use case_lines::front;

@@ -1,4 +1,4 @@
-// The calls of a channel by value, each with its answer told as document 01's number.
+// The calls of a channel by value, each with its answer told as a number (rules R2.0 to R2.11).
 use answer::number as number_of;
 use channel_state::Channel;
 use channel_state::Mark;

@@ -7,9 +7,13 @@ use records::machine::ready;
 use vector_chunks::serve_chunk;
 ghost use mathlib.Core.Path.{_≡_};
 ghost use mathlib.Core.Bool.{false};
-ghost use Prim.Native.Nat.{_≤_};
-ghost use lib.ListN.{length};
-ghost use Rattle.records.specs.Remembered.{Followed};
+ghost use Prim.Native.Nat.{_≤_, _<_};
+ghost use lib.ListN.{length, take};
+ghost use Rattle.records.specs.Answers.{Wrote};
+ghost use Rattle.records.specs.Kept.{lastLine};
+ghost use Rattle.records.specs.Remembered.{FieldBuffers};
+ghost use Rattle.records.specs.Input.{Answered, Ended};
+ghost use Rattle.vector_lines.specs.Line.{answerLine};
 
 // One buffer takes the input, and another the answers.
 fn main() {
@@ -18,15 +22,22 @@ fn main() {
     answer_in(&mut out, &mut chunk);
 }
 
+// How a run over the input ended: how many turns were left, and whether a write failed.
+struct End {
+    turns: u64,
+    failed: bool,
+}
+
 // Each field has a buffer of 4,096 bytes, cleared at first.
-fn answer_in(out: &mut [u8], chunk: &mut [u8])
+fn answer_in(out: &mut [u8], chunk: &mut [u8]) -> End
     requires { ⌜ 8227 ≤ length (now out) ⌝ }
+    ensures { λ r. ⌜ Ended answerLine (r .turns) (r .failed) (now (out .exit)) ⌝ }
 {
     let mut key = [0u8; 4096];
     let mut iv = [0u8; 4096];
     let mut ad = [0u8; 4096];
     let mut text = [0u8; 4096];
-    answer_input(out, &mut key, &mut iv, &mut ad, &mut text, chunk);
+    answer_input(out, &mut key, &mut iv, &mut ad, &mut text, chunk)
 }
 
 // Answers each record of the input, and what remains at its end. A read that fails ends the input, and a write that fails
@@ -38,8 +49,10 @@ fn answer_input(
     ad: &mut [u8; 4096],
     text: &mut [u8; 4096],
     chunk: &mut [u8],
-)
+) -> End
     requires { ⌜ 8227 ≤ length (now out) ⌝ }
+    requires { ⌜ FieldBuffers (now key) (now iv) (now ad) (now text) ⌝ }
+    ensures { λ r. ⌜ Ended answerLine (r .turns) (r .failed) (now (out .exit)) ⌝ }
 {
     let mut machine = ready();
     let mut turns = u64::MAX;
@@ -47,29 +60,58 @@ fn answer_input(
         let n = io::count(libc::read(STDIN_FILENO, chunk), chunk);
         if n == 0 {
             answer_rest(out, machine);
-            return;
+            return End {
+                turns,
+                failed: false,
+            };
         }
         let progress = answer_chunk(out, key, iv, ad, text, machine, &chunk[..n]);
-        if progress.failed {
-            return;
-        }
         let next = progress.machine;
         machine = next;
         turns -= 1;
+        if progress.failed {
+            return End {
+                turns,
+                failed: true,
+            };
+        }
+    }
+    End {
+        turns,
+        failed: false,
     }
 }
 
-// Answers what remains where the input ends.
-fn answer_rest(out: &mut [u8], machine: Machine)
+// Answers what remains where the input ends, and returns how many bytes were handed out.
+fn answer_rest(out: &mut [u8], machine: Machine) -> usize
     requires { ⌜ 4 ≤ length (now out) ⌝ }
+    ensures { λ r. ⌜ Wrote (lastLine machine) (now (out .entry)) (now (out .exit)) r ⌝ }
 {
     let count = write_last(out, machine);
-    io::write_all(STDOUT_FILENO, &out[..count]);
+    let handed = hand_out(&out[..count]);
+    handed.count
 }
 
-// What was read of the record at hand behind a chunk, and whether a write failed.
+// How many bytes were handed out, and whether the write failed.
+struct Handed {
+    count: usize,
+    failed: bool,
+}
+
+// Hands bytes out to standard output.
+fn hand_out(bytes: &[u8]) -> Handed
+    ensures { λ r. ⌜ r .count ≡ length (now (bytes .entry)) ⌝ }
+{
+    Handed {
+        count: bytes.len(),
+        failed: !io::write_all(STDOUT_FILENO, bytes),
+    }
+}
+
+// How far a chunk was taken in, what was read of the record at hand there, and whether a write failed.
 struct Progress {
     machine: Machine,
+    at: usize,
     failed: bool,
 }
 
@@ -84,7 +126,9 @@ fn answer_chunk(
     chunk: &[u8],
 ) -> Progress
     requires { ⌜ 8227 ≤ length (now out) ⌝ }
-    ensures { λ r. ⌜ (r .failed ≡ false → Followed m (now (key .entry)) (now (iv .entry)) (now (ad .entry)) (now (text .entry)) (now (chunk .entry)) (r .machine) (now (key .exit)) (now (iv .exit)) (now (ad .exit)) (now (text .exit))) ⌝ }
+    ensures { λ r. ⌜ Answered answerLine m (now (key .entry)) (now (iv .entry)) (now (ad .entry)) (now (text .entry)) (take (r .at) (now (chunk .entry))) (r .machine) (now (key .exit)) (now (iv .exit)) (now (ad .exit)) (now (text .exit)) ⌝ }
+    ensures { λ r. ⌜ (r .failed ≡ false → r .at ≡ length (now (chunk .entry))) ⌝ }
+    ensures { λ r. ⌜ (0 < length (now (chunk .entry)) → 0 < r .at) ⌝ }
 {
     let mut machine = m;
     let mut at = 0;
@@ -94,15 +138,18 @@ fn answer_chunk(
         machine = next;
         at = service.at;
         let count = service.count;
-        if !io::write_all(STDOUT_FILENO, &out[..count]) {
+        let handed = hand_out(&out[..count]);
+        if handed.failed {
             return Progress {
                 machine,
+                at,
                 failed: true,
             };
         }
     }
     Progress {
         machine,
+        at,
         failed: false,
     }
 }

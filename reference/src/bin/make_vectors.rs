@@ -3,7 +3,7 @@
 //!
 //! The rule of the choice:
 //!
-//! 1. document 01's whole case;
+//! 1. the whole case of rule R13.9;
 //! 2. of NIST's two sealing files, every case with a 16-byte tag: they need no trimming;
 //! 3. made from the fixed seed, and in an order that the seed draws, so that long records follow
 //!    short ones and good records follow bad ones:

@@ -1,4 +1,4 @@
-//! Answers the records of standard input, as document 01's vector program does.
+//! Answers the records of standard input, as the vector program of rules R13.1 to R13.9 does.
 
 use std::io::{Read, Write};
 

@@ -23,7 +23,7 @@ struct Message {
     bytes: Vec<u8>,
 }
 
-/// What a channel is, in the words of document 01.
+/// What a channel is, as rules R6.1 to R6.15 have it.
 struct Model {
     key: Vec<u8>,
     mark: [u8; 4],

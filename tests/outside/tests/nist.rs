@@ -1,7 +1,7 @@
 //! NIST's published GCM vectors, every case of the four files, through the proved library and the
 //! reference program alike.
 //!
-//! Document 01 refuses tags under 12 bytes: cases with such a tag must be refused.
+//! Rule R2.3 (row 3, tag length) takes no tag under 12 bytes: a case with one must be refused.
 
 use outside::Call;
 use reference::mode::{self, DONE, TAG_DIFFERS, TAG_LENGTH, TAG_LENGTHS};

@@ -1,4 +1,4 @@
-//! Document 01's case: sixteen zeros under a key of sixteen zeros and an IV of twelve.
+//! Rule R10.13 (zeros sealed): sixteen zeros under a key of sixteen zeros and an IV of twelve.
 
 use outside::{open, seal};
 use reference::nist::bytes;

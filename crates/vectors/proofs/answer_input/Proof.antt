@@ -1,24 +1,40 @@
--- `vectors::answer_input` is safe and ends: each turn leaves one less of those that it counts, and the lent buffers keep their
--- lengths.
-use mathlib.Core.Path.{_≡_, refl}
+-- `vectors::answer_input` meets its contract: each turn takes in the chunk that was read behind those before it, with the machine
+-- that remembers them all, and leaves one less of the turns that it counts.
+use mathlib.Core.Path.{_≡_, refl, sym, ap, _∙_}
+use mathlib.Core.Bool.{false≢true}
+use Prim.Native.Nat.{_<_}
+use native.Mathlib.Nat.{le-of-eq}
+use native.Mathlib.Omega.{arith}
 use borrow.Author.Needs.{needs}
-use lib.ListN.{length}
+use lib.ListN.{length, take, length-take}
+use lib.Seq.{take-all}
+use Rattle.records.proofs.InputLaws.{Carried, carried-start, taken-then, carried-then, ended-whole, ended-before}
+use Rattle.vector_lines.specs.Line.{answerLine}
 use Rattle.vectors.proofs.answer_input.Statement.{statement}
 use Rattle.vectors.proofs.answer_input.Tie as tie
 
 abbrev Inv-loop : tie.InvT-loop
 Inv-loop out₀ key₀ iv₀ ad₀ text₀ chunk₀ machine₀ turns₀ out key iv ad text chunk machine turns =
-    (length out ≡ length out₀) × (length chunk ≡ length chunk₀)
+    (length out ≡ length out₀)
+    × (length chunk ≡ length chunk₀)
+    × Carried answerLine turns chunk machine key iv ad text
 
 abbrev μ-loop : tie.MeasureT-loop
 μ-loop out₀ key₀ iv₀ ad₀ text₀ chunk₀ machine₀ turns₀ out key iv ad text chunk machine turns =
     turns
 
+-- what was read is no empty chunk
+some : (c : tie.Else1 Inv-loop μ-loop)
+    → 0 < length (take (c .before .count .result) (c .before .before .before .before .before .read .last .1 .0))
+some c = omega (arith, c .if1 .left, c .before .count .ensures .0 .1)
+
 ready-requires : tie.Need-ready-requires Inv-loop μ-loop
 ready-requires c κs = search needs
 
 loop-holds : tie.Need-loop-holds Inv-loop μ-loop
-loop-holds c = (refl, refl)
+loop-holds c =
+    let start = c .before .before .before in
+    (refl, refl, rw (c .ready .ensures) (carried-start answerLine _ _ _ _ _ (start .pre .1)))
 
 read-requires : tie.Need-read-requires Inv-loop μ-loop
 read-requires c κs = search needs
@@ -36,7 +52,10 @@ same-length-2 : tie.Need-same-length-2 Inv-loop μ-loop
 same-length-2 c = search needs
 
 returns : tie.Need-returns Inv-loop μ-loop
-returns c = search needs
+returns c =
+    let rest = c .before .before in
+    let now = rest .before .before .before .before .before .before .before .before .before .before .loop in
+    ended-whole answerLine (now .inv .2) (rest .answer-rest .ensures)
 
 slice-reshare-prefix-answer-chunk : tie.Need-slice-reshare-prefix-answer-chunk Inv-loop μ-loop
 slice-reshare-prefix-answer-chunk c = search needs
@@ -47,6 +66,9 @@ slice-aggregate-answer-chunk c = search needs
 answer-chunk-requires : tie.Need-answer-chunk-requires Inv-loop μ-loop
 answer-chunk-requires c κs = search needs
 
+sub-turns : tie.Need-sub-turns Inv-loop μ-loop
+sub-turns c = search needs
+
 same-length-3 : tie.Need-same-length-3 Inv-loop μ-loop
 same-length-3 c = search needs
 
@@ -54,16 +76,39 @@ same-length-4 : tie.Need-same-length-4 Inv-loop μ-loop
 same-length-4 c = search needs
 
 returns-2 : tie.Need-returns-2 Inv-loop μ-loop
-returns-2 c = search needs
-
-sub-turns : tie.Need-sub-turns Inv-loop μ-loop
-sub-turns c = search needs
+returns-2 c =
+    let answered = c .before .before .before .before in
+    let counted = answered .before .before .before .before .before .before .before in
+    let entered = counted .before .before .before .before .before .before .before in
+    let answers = answered .answer-chunk .ensures in
+    let begun = answers .1 .1 (some counted) in
+    ended-before answerLine
+    (taken-then answerLine
+    (entered .before .loop .inv .2)
+    (answers .0)
+    (simp length-take (omega (arith, begun, some counted)))
+    (entered .loop-test .taken))
+    (λ fine. absurd (false≢true (sym fine)))
 
 loop-less : tie.Need-loop-less Inv-loop μ-loop
 loop-less c = search needs
 
 loop-again : tie.Need-loop-again Inv-loop μ-loop
-loop-again c = search needs
+loop-again c =
+    let answered = c .before .before .before .before in
+    let counted = answered .before .before .before .before .before .before .before in
+    let read = counted .before .before .before .before .before in
+    let entered = read .before .before in
+    let inv = entered .before .loop .inv in
+    let answers = answered .answer-chunk .ensures in
+    let buffer = read .read .last .1 .0 in
+    let count = counted .before .count in
+    let whole = take-all _ (take (count .result) buffer) (le-of-eq (sym (answers .1 .0 (c .if2 .left)))) in
+    let front = ap (λ n. take n buffer) (sym (count .ensures .0 .1)) in (
+      answered .answer-chunk .kept .0 ∙ inv .0,
+      read .read .kept .1 .0 ∙ inv .1,
+      carried-then answerLine (inv .2) (rw whole at (answers .0)) (some counted) (entered .loop-test .taken) buffer front,
+    )
 
 same-length-5 : tie.Need-same-length-5 Inv-loop μ-loop
 same-length-5 c = search needs
@@ -72,7 +117,7 @@ same-length-6 : tie.Need-same-length-6 Inv-loop μ-loop
 same-length-6 c = search needs
 
 returns-3 : tie.Need-returns-3 Inv-loop μ-loop
-returns-3 c = search needs
+returns-3 c = ended-before answerLine (c .before .loop .inv .2 .taken) (λ fine left. omega (arith, c .loop-test .left))
 
 pub answer-input-spec : {M : Type 1} → statement M
 answer-input-spec =
@@ -91,10 +136,10 @@ answer-input-spec =
     slice-reshare-prefix-answer-chunk
     slice-aggregate-answer-chunk
     answer-chunk-requires
+    sub-turns
     same-length-3
     same-length-4
     returns-2
-    sub-turns
     loop-less
     loop-again
     same-length-5
