@@ -41,13 +41,32 @@ at_once! {
     /// Seals a text: ciphertext and then tag are written to the front of `out`. It gives how many
     /// bytes that is, the text's and `tag_len`; a refusal leaves `out` as it was.
     ///
-    /// The IV has 1 to 128 bytes, and is never the same twice under one key. The tag has 12 to 16,
-    /// associated data and text at most 65,536 each.
+    /// The IV is never the same twice under one key, and the key is not that of a
+    /// [`Channel`](crate::Channel).
+    ///
+    /// # Errors
+    ///
+    /// - [`Error::IvLength`]: the IV has no byte, or more than 128.
+    /// - [`Error::TagLength`]: `tag_len` is not 12 to 16.
+    /// - [`Error::AdLong`]: `ad` has more than 65,536 bytes.
+    /// - [`Error::TextLong`]: the text has more than 65,536 bytes.
+    /// - [`Error::OutputShort`]: `out` is shorter than the text and the tag.
     seal calls ewplander_seal;
     /// Opens what was sealed with the same key, IV, associated data and tag length: the text is
     /// written to the front of `out`. It gives how many bytes that is; a refusal leaves `out` as it
     /// was.
     ///
-    /// It is refused as [`Error::TagDiffers`] exactly when no text has this sealed form.
+    /// A [`Channel`](crate::Channel)'s message is opened by its IV: the mark, then the number,
+    /// highest byte first ([`Number`](crate::Number)).
+    ///
+    /// # Errors
+    ///
+    /// - [`Error::IvLength`]: the IV has no byte, or more than 128.
+    /// - [`Error::TagLength`]: `tag_len` is not 12 to 16.
+    /// - [`Error::AdLong`]: `ad` has more than 65,536 bytes.
+    /// - [`Error::TextLong`]: there are more than 65,536 sealed bytes in front of the tag.
+    /// - [`Error::SealedShort`]: there are fewer sealed bytes than the tag has.
+    /// - [`Error::OutputShort`]: `out` is shorter than the text.
+    /// - [`Error::TagDiffers`]: exactly when no text has this sealed form.
     open calls ewplander_open;
 }

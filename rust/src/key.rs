@@ -1,5 +1,5 @@
 use crate::Error;
-use std::fmt;
+use core::fmt;
 
 /// A key of 128 or 256 bits.
 #[derive(Clone)]
@@ -11,7 +11,11 @@ pub enum Key {
 }
 
 impl Key {
-    /// The key with these bytes, of which there are 16 or 32.
+    /// The key with these bytes.
+    ///
+    /// # Errors
+    ///
+    /// [`Error::KeyLength`] where there are neither 16 of them nor 32.
     pub fn new(bytes: &[u8]) -> Result<Key, Error> {
         if let Ok(bytes) = bytes.try_into() {
             Ok(Key::Bits128(bytes))

@@ -5,6 +5,10 @@
 //! Any lengths may be handed in: a bad one is refused by its [`Error`], and a refused call alters
 //! no byte of an output and nothing in a channel.
 //!
+//! No call allocates, and nothing of `std` is needed; how much stack each C function takes,
+//! `include/ewplander.h` says. None is constant in time: the cipher's substitution is a table
+//! indexed by secret bytes.
+//!
 //! ```
 //! use ewplander::{open, seal, Error, Key};
 //!
@@ -22,6 +26,9 @@
 //! # }
 //! ```
 
+#![no_std]
+#![deny(missing_docs, clippy::missing_errors_doc)]
+
 mod at_once;
 mod channel;
 mod error;
@@ -33,7 +40,7 @@ pub use channel::{Channel, Mark, Number, Tag};
 pub use error::Error;
 pub use key::Key;
 
-/// README's example, run as a test.
+/// README's examples, run as tests.
 #[cfg(doctest)]
 #[doc = include_str!("../../README.md")]
 struct Readme;

@@ -1,4 +1,8 @@
 //! The C functions themselves, as `include/ewplander.h` declares and explains them.
+//!
+//! Every pointer with a length is followed for that many bytes, the others always; what is written
+//! to overlaps no other argument. Each answers 0 for done, or the number of an
+//! [`Error`](crate::Error).
 
 /// A channel as C has it.
 #[repr(C)]
@@ -45,6 +49,7 @@ impl Channel {
 }
 
 extern "C" {
+    /// Seals a text at once: ciphertext, then tag.
     pub fn ewplander_seal(
         key: *const u8,
         key_len: usize,
@@ -60,6 +65,7 @@ extern "C" {
         count: *mut usize,
     ) -> u32;
 
+    /// Opens what was sealed; nothing is written unless the tag is right.
     pub fn ewplander_open(
         key: *const u8,
         key_len: usize,
@@ -75,6 +81,7 @@ extern "C" {
         count: *mut usize,
     ) -> u32;
 
+    /// Stores a new channel, or the dead one where it refuses.
     pub fn ewplander_channel_open(
         channel: *mut Channel,
         key: *const u8,
@@ -83,6 +90,7 @@ extern "C" {
         tag_len: usize,
     ) -> u32;
 
+    /// Begins a message; its number is the last eight bytes of its IV, highest byte first.
     pub fn ewplander_channel_begin(
         channel: *mut Channel,
         number: u64,
@@ -90,6 +98,7 @@ extern "C" {
         ad_len: usize,
     ) -> u32;
 
+    /// Seals a piece of the message's text.
     pub fn ewplander_channel_feed(
         channel: *mut Channel,
         piece: *const u8,
@@ -99,7 +108,9 @@ extern "C" {
         count: *mut usize,
     ) -> u32;
 
+    /// Ends the message and stores its tag, zeros past the channel's tag length.
     pub fn ewplander_channel_finish(channel: *mut Channel, tag: *mut [u8; 16]) -> u32;
 
+    /// Ends the message without a tag; its number stays used.
     pub fn ewplander_channel_abandon(channel: *mut Channel) -> u32;
 }

@@ -30,7 +30,7 @@ ghost use Rattle.channel_state.specs.State.{roundsIn, messageTag};
 #[repr(C)]
 pub struct Mark(pub [u8; 4]);
 
-// A message's number: the last eight bytes of its IV.
+// A message's number: the last eight bytes of its IV, the highest first.
 #[repr(C)]
 pub struct Number(pub u64);
 

@@ -1,7 +1,7 @@
 -- A run, chunk after chunk: what each is answered by stands behind what those before it are answered by, and the machine
 -- remembers them all. So what it says at the end is what the whole input asks for.
 use mathlib.Core.Path.{_≡_, refl, sym, ap, ap₂, _∙_}
-use mathlib.Core.Bool.{Bool, false}
+use mathlib.Core.Bool.{Bool, false, false≢true}
 use mathlib.Core.Logic.{⊎-elim}
 use mathlib.Core.List.{List, [], _∷_, _++_, append-assoc, append-nil}
 use mathlib.Core.List.{List·Memᴰ·append-cases, List·Memᴰ·eq-of-singleton, List·Memᴰ·not-nil}
@@ -127,20 +127,21 @@ module _ (answer : Answering) where
 
     -- the input ends, and what remains of it is answered
     pub ended-whole : {failed : Bool} {before out : List ℕ} {count : ℕ} → Wrote (lastLine m) before out count
-        → Ended answer turns failed out
+        → Ended answer turns count failed false out
     unfolding writtenBy joined
-    ended-whole {count = count} wrote =
+    ended-whole wrote =
         let input = joined (was .taken .chunks) in
         record {
           taken = was .taken;
-          last = count;
-          whole = λ fine left.
+          whole = λ fine read left.
               ap₂ _++_ (was .taken .answers) (wrote-line wrote ∙ sym (ending-remembered _ (was .remembers)))
               ∙ any-chunks answer (input ∷ [])
               ∙ ap (outputOf answer) (append-nil input);
+          nothing-last = λ unread. absurd (false≢true unread);
         }
 
-  -- it is over before: a write failed, or no turn is left
-  pub ended-before : {turns : ℕ} {failed : Bool} {out : List ℕ} → TakenIn answer turns → (failed ≡ false → 0 < turns → ⊥)
-      → Ended answer turns failed out
-  ended-before taken early = record { taken = taken; last = 0; whole = λ fine left. absurd (early fine left) }
+  -- it is over before: a write or a read failed, or no turn is left
+  pub ended-before : {turns : ℕ} {failed unread : Bool} {out : List ℕ} → TakenIn answer turns
+      → (failed ≡ false → unread ≡ false → 0 < turns → ⊥) → Ended answer turns 0 failed unread out
+  ended-before taken early =
+      record { taken = taken; whole = λ fine read left. absurd (early fine read left); nothing-last = λ unread. refl }

@@ -1,6 +1,6 @@
 -- What a run over an input that comes in chunks took in, and what it handed out for that.
 use mathlib.Core.Path.{_≡_}
-use mathlib.Core.Bool.{Bool, false}
+use mathlib.Core.Bool.{Bool, false, true}
 use mathlib.Core.List.{List, _++_, List·Memᴰ}
 use Prim.Native.Nat.{ℕ, _+_, _<_}
 use lib.ListN.{length, take}
@@ -35,9 +35,11 @@ pub record TakenIn (answer : Answering) (turns : ℕ) : Type 0 where
   pub counted : length chunks + turns ≡ mostTurns
   pub answers : handed ≡ written answer start (joined chunks)
 
--- A run that is over. Where no write had failed and a turn is left, the input ended there: what was handed out for the chunks,
--- with so many bytes of the output, handed out last, is the output for the whole input.
-pub record Ended (answer : Answering) (turns : ℕ) (failed : Bool) (out : List ℕ) : Type 0 where
+-- A run that is over. Where no write and no read failed and a turn is left, the input ended there: what was handed out for the
+-- chunks, with so many bytes of the output, handed out last, is the output for the whole input. Where a read failed the rest of
+-- the input is unread, and nothing was handed out last.
+pub record Ended (answer : Answering) (turns last : ℕ) (failed unread : Bool) (out : List ℕ) : Type 0 where
   pub taken : TakenIn answer turns
-  pub last : ℕ
-  pub whole : failed ≡ false → 0 < turns → taken .handed ++ take last out ≡ outputOf answer (joined (taken .chunks))
+  pub whole : failed ≡ false → unread ≡ false → 0 < turns
+      → taken .handed ++ take last out ≡ outputOf answer (joined (taken .chunks))
+  pub nothing-last : unread ≡ true → last ≡ 0

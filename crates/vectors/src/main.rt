@@ -1,4 +1,5 @@
 // The vector program: it reads records, hands them on, and writes the answers.
+use libc::STDERR_FILENO;
 use libc::STDIN_FILENO;
 use libc::STDOUT_FILENO;
 use records::answers::write_last;
@@ -15,23 +16,41 @@ ghost use Rattle.records.specs.Remembered.{FieldBuffers};
 ghost use Rattle.records.specs.Input.{Answered, Ended};
 ghost use Rattle.vector_lines.specs.Line.{answerLine};
 
-// One buffer takes the input, and another the answers.
+// One buffer takes the input, and another the answers. A program has no exit status: what failed is said on standard error,
+// so that lost output does not look like success.
 fn main() {
     let mut chunk = io::large_buffer();
     let mut out = io::large_buffer();
-    answer_in(&mut out, &mut chunk);
+    let end = answer_in(&mut out, &mut chunk);
+    if end.failed {
+        say_cannot_write();
+    }
+    if end.unread {
+        say_cannot_read();
+    }
 }
 
-// How a run over the input ended: how many turns were left, and whether a write failed.
+fn say_cannot_write() {
+    io::write_all(STDERR_FILENO, b"vectors: cannot write\n");
+}
+
+fn say_cannot_read() {
+    io::write_all(STDERR_FILENO, b"vectors: cannot read\n");
+}
+
+// How a run over the input ended: how many turns were left, how many bytes were handed out for what remained at the end of the
+// input, whether a write failed, and whether a read did, so that the rest of the input is unread.
 struct End {
     turns: u64,
+    last: usize,
     failed: bool,
+    unread: bool,
 }
 
 // Each field has a buffer of 4,096 bytes, cleared at first.
 fn answer_in(out: &mut [u8], chunk: &mut [u8]) -> End
     requires { ⌜ 8227 ≤ length (now out) ⌝ }
-    ensures { λ r. ⌜ Ended answerLine (r .turns) (r .failed) (now (out .exit)) ⌝ }
+    ensures { λ r. ⌜ Ended answerLine (r .turns) (r .last) (r .failed) (r .unread) (now (out .exit)) ⌝ }
 {
     let mut key = [0u8; 4096];
     let mut iv = [0u8; 4096];
@@ -40,8 +59,9 @@ fn answer_in(out: &mut [u8], chunk: &mut [u8]) -> End
     answer_input(out, &mut key, &mut iv, &mut ad, &mut text, chunk)
 }
 
-// Answers each record of the input, and what remains at its end. A read that fails ends the input, and a write that fails
-// ends the program. A proved loop has to end: this one counts down from more chunks than there can be.
+// Answers each record of the input, and what remains at its end. A read that fails is no end of the input: what remains there is
+// not answered, since nobody knows how it goes on. It ends the program, as a write that fails does. A proved loop has to end: this
+// one counts down from more chunks than there can be.
 fn answer_input(
     out: &mut [u8],
     key: &mut [u8; 4096],
@@ -52,17 +72,28 @@ fn answer_input(
 ) -> End
     requires { ⌜ 8227 ≤ length (now out) ⌝ }
     requires { ⌜ FieldBuffers (now key) (now iv) (now ad) (now text) ⌝ }
-    ensures { λ r. ⌜ Ended answerLine (r .turns) (r .failed) (now (out .exit)) ⌝ }
+    ensures { λ r. ⌜ Ended answerLine (r .turns) (r .last) (r .failed) (r .unread) (now (out .exit)) ⌝ }
 {
     let mut machine = ready();
     let mut turns = u64::MAX;
     while 0 < turns {
-        let n = io::count(libc::read(STDIN_FILENO, chunk), chunk);
-        if n == 0 {
-            answer_rest(out, machine);
+        let got = libc::read(STDIN_FILENO, chunk);
+        if got < 0 {
             return End {
                 turns,
+                last: 0,
                 failed: false,
+                unread: true,
+            };
+        }
+        let n = io::count(got, chunk);
+        if n == 0 {
+            let rest = answer_rest(out, machine);
+            return End {
+                turns,
+                last: rest.count,
+                failed: rest.failed,
+                unread: false,
             };
         }
         let progress = answer_chunk(out, key, iv, ad, text, machine, &chunk[..n]);
@@ -72,30 +103,33 @@ fn answer_input(
         if progress.failed {
             return End {
                 turns,
+                last: 0,
                 failed: true,
+                unread: false,
             };
         }
     }
     End {
         turns,
+        last: 0,
         failed: false,
+        unread: false,
     }
-}
-
-// Answers what remains where the input ends, and returns how many bytes were handed out.
-fn answer_rest(out: &mut [u8], machine: Machine) -> usize
-    requires { ⌜ 4 ≤ length (now out) ⌝ }
-    ensures { λ r. ⌜ Wrote (lastLine machine) (now (out .entry)) (now (out .exit)) r ⌝ }
-{
-    let count = write_last(out, machine);
-    let handed = hand_out(&out[..count]);
-    handed.count
 }
 
 // How many bytes were handed out, and whether the write failed.
 struct Handed {
     count: usize,
     failed: bool,
+}
+
+// Answers what remains where the input ends.
+fn answer_rest(out: &mut [u8], machine: Machine) -> Handed
+    requires { ⌜ 4 ≤ length (now out) ⌝ }
+    ensures { λ r. ⌜ Wrote (lastLine machine) (now (out .entry)) (now (out .exit)) (r .count) ⌝ }
+{
+    let count = write_last(out, machine);
+    hand_out(&out[..count])
 }
 
 // Hands bytes out to standard output.

@@ -1,5 +1,5 @@
 -- `vectors::answer_input` meets its contract: each turn takes in the chunk that was read behind those before it, with the machine
--- that remembers them all, and leaves one less of the turns that it counts.
+-- that remembers them all, and leaves one less of the turns that it counts. What remains is answered where the input ends alone.
 use mathlib.Core.Path.{_≡_, refl, sym, ap, _∙_}
 use mathlib.Core.Bool.{false≢true}
 use Prim.Native.Nat.{_<_}
@@ -24,9 +24,9 @@ abbrev μ-loop : tie.MeasureT-loop
     turns
 
 -- what was read is no empty chunk
-some : (c : tie.Else1 Inv-loop μ-loop)
-    → 0 < length (take (c .before .count .result) (c .before .before .before .before .before .read .last .1 .0))
-some c = omega (arith, c .if1 .left, c .before .count .ensures .0 .1)
+some : (c : tie.Else2 Inv-loop μ-loop)
+    → 0 < length (take (c .before .count .result) (c .before .before .before .before .before .before .read .last .1 .0))
+some c = omega (arith, c .if2 .left, c .before .count .ensures .0 .1)
 
 ready-requires : tie.Need-ready-requires Inv-loop μ-loop
 ready-requires c κs = search needs
@@ -39,12 +39,6 @@ loop-holds c =
 read-requires : tie.Need-read-requires Inv-loop μ-loop
 read-requires c κs = search needs
 
-count-requires : tie.Need-count-requires Inv-loop μ-loop
-count-requires c κs = search needs
-
-answer-rest-requires : tie.Need-answer-rest-requires Inv-loop μ-loop
-answer-rest-requires c κs = search needs
-
 same-length : tie.Need-same-length Inv-loop μ-loop
 same-length c = search needs
 
@@ -53,8 +47,25 @@ same-length-2 c = search needs
 
 returns : tie.Need-returns Inv-loop μ-loop
 returns c =
+    let entered = c .before .before .before .before .before in
+    ended-before answerLine (entered .before .loop .inv .2 .taken) (λ fine read. absurd (false≢true (sym read)))
+
+count-requires : tie.Need-count-requires Inv-loop μ-loop
+count-requires c κs = search needs
+
+answer-rest-requires : tie.Need-answer-rest-requires Inv-loop μ-loop
+answer-rest-requires c κs = search needs
+
+same-length-3 : tie.Need-same-length-3 Inv-loop μ-loop
+same-length-3 c = search needs
+
+same-length-4 : tie.Need-same-length-4 Inv-loop μ-loop
+same-length-4 c = search needs
+
+returns-2 : tie.Need-returns-2 Inv-loop μ-loop
+returns-2 c =
     let rest = c .before .before in
-    let now = rest .before .before .before .before .before .before .before .before .before .before .loop in
+    let now = rest .before .before .before .before .before .before .before .before .before .before .before .loop in
     ended-whole answerLine (now .inv .2) (rest .answer-rest .ensures)
 
 slice-reshare-prefix-answer-chunk : tie.Need-slice-reshare-prefix-answer-chunk Inv-loop μ-loop
@@ -69,17 +80,17 @@ answer-chunk-requires c κs = search needs
 sub-turns : tie.Need-sub-turns Inv-loop μ-loop
 sub-turns c = search needs
 
-same-length-3 : tie.Need-same-length-3 Inv-loop μ-loop
-same-length-3 c = search needs
+same-length-5 : tie.Need-same-length-5 Inv-loop μ-loop
+same-length-5 c = search needs
 
-same-length-4 : tie.Need-same-length-4 Inv-loop μ-loop
-same-length-4 c = search needs
+same-length-6 : tie.Need-same-length-6 Inv-loop μ-loop
+same-length-6 c = search needs
 
-returns-2 : tie.Need-returns-2 Inv-loop μ-loop
-returns-2 c =
+returns-3 : tie.Need-returns-3 Inv-loop μ-loop
+returns-3 c =
     let answered = c .before .before .before .before in
     let counted = answered .before .before .before .before .before .before .before in
-    let entered = counted .before .before .before .before .before .before .before in
+    let entered = counted .before .before .before .before .before .before .before .before in
     let answers = answered .answer-chunk .ensures in
     let begun = answers .1 .1 (some counted) in
     ended-before answerLine
@@ -97,27 +108,27 @@ loop-again : tie.Need-loop-again Inv-loop μ-loop
 loop-again c =
     let answered = c .before .before .before .before in
     let counted = answered .before .before .before .before .before .before .before in
-    let read = counted .before .before .before .before .before in
+    let read = counted .before .before .before .before .before .before in
     let entered = read .before .before in
     let inv = entered .before .loop .inv in
     let answers = answered .answer-chunk .ensures in
     let buffer = read .read .last .1 .0 in
     let count = counted .before .count in
-    let whole = take-all _ (take (count .result) buffer) (le-of-eq (sym (answers .1 .0 (c .if2 .left)))) in
+    let whole = take-all _ (take (count .result) buffer) (le-of-eq (sym (answers .1 .0 (c .if3 .left)))) in
     let front = ap (λ n. take n buffer) (sym (count .ensures .0 .1)) in (
       answered .answer-chunk .kept .0 ∙ inv .0,
       read .read .kept .1 .0 ∙ inv .1,
       carried-then answerLine (inv .2) (rw whole at (answers .0)) (some counted) (entered .loop-test .taken) buffer front,
     )
 
-same-length-5 : tie.Need-same-length-5 Inv-loop μ-loop
-same-length-5 c = search needs
+same-length-7 : tie.Need-same-length-7 Inv-loop μ-loop
+same-length-7 c = search needs
 
-same-length-6 : tie.Need-same-length-6 Inv-loop μ-loop
-same-length-6 c = search needs
+same-length-8 : tie.Need-same-length-8 Inv-loop μ-loop
+same-length-8 c = search needs
 
-returns-3 : tie.Need-returns-3 Inv-loop μ-loop
-returns-3 c = ended-before answerLine (c .before .loop .inv .2 .taken) (λ fine left. omega (arith, c .loop-test .left))
+returns-4 : tie.Need-returns-4 Inv-loop μ-loop
+returns-4 c = ended-before answerLine (c .before .loop .inv .2 .taken) (λ fine read left. omega (arith, c .loop-test .left))
 
 pub answer-input-spec : {M : Type 1} → statement M
 answer-input-spec =
@@ -128,20 +139,23 @@ answer-input-spec =
     ready-requires
     loop-holds
     read-requires
-    count-requires
-    answer-rest-requires
     same-length
     same-length-2
     returns
+    count-requires
+    answer-rest-requires
+    same-length-3
+    same-length-4
+    returns-2
     slice-reshare-prefix-answer-chunk
     slice-aggregate-answer-chunk
     answer-chunk-requires
     sub-turns
-    same-length-3
-    same-length-4
-    returns-2
-    loop-less
-    loop-again
     same-length-5
     same-length-6
-    returns-3)
+    returns-3
+    loop-less
+    loop-again
+    same-length-7
+    same-length-8
+    returns-4)
