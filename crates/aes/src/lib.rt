@@ -3,7 +3,7 @@
 // Whoever enciphers many blocks keeps a copy of the table and the round keys, and lends both.
 ghost use Rattle.std.specs.Prelude.{◌≡◌, ◌-◌, ◌≤◌, length};
 ghost use Rattle.sbox.specs.Substitution.{Substitutes};
-ghost use Rattle.aes.specs.Cipher.{rounded, lastRounded, afterRounds, encipheredBy, enciphered};
+ghost use Rattle.aes.specs.Cipher.{rounded, last_rounded, after_rounds, enciphered_by, enciphered};
 
 use schedule::expand;
 use state::{add_round_key, block_of, mix_columns, shift_rows, state_of, sub_bytes};
@@ -22,7 +22,7 @@ pub fn encipher(key: &[u8], block: [u8; 16]) -> [u8; 16]
 pub fn encipher_by(table: &[u8; 256], words: &[u32; 60], rounds: usize, block: [u8; 16]) -> [u8; 16]
     requires substitutes { Substitutes table.now }
     requires rounds_bound { rounds ≤ 14 }
-    ensures { result ≡ encipheredBy words.now rounds block }
+    ensures { result ≡ enciphered_by words.now rounds block }
 {
     let start = add_round_key(words, 0, state_of(block));
     let state = all_but_last(table, words, rounds, start);
@@ -38,7 +38,7 @@ fn all_but_last(
 ) -> [[u8; 4]; 4]
     requires substitutes { Substitutes table.now }
     requires rounds_bound { rounds ≤ 14 }
-    ensures { result ≡ afterRounds words.now (rounds - 1) s }
+    ensures { result ≡ after_rounds words.now (rounds - 1) s }
 {
     let mut state = s;
     let mut done = 0;
@@ -61,7 +61,7 @@ fn round(table: &[u8; 256], words: &[u32; 60], k: usize, s: [[u8; 4]; 4]) -> [[u
 fn last_round(table: &[u8; 256], words: &[u32; 60], k: usize, s: [[u8; 4]; 4]) -> [[u8; 4]; 4]
     requires substitutes { Substitutes table.now }
     requires k_bound { k ≤ 14 }
-    ensures { result ≡ lastRounded words.now k s }
+    ensures { result ≡ last_rounded words.now k s }
 {
     add_round_key(words, k, shift_rows(sub_bytes(table, s)))
 }

@@ -27,10 +27,10 @@ answers =
     Done ∷ KeyLength ∷ IvLength ∷ TagLength ∷ AdLong ∷ TextLong ∷ SealedShort ∷ OutputShort ∷ TagDiffers ∷ WrongPhase
     ∷ Stale ∷ Used ∷ []
 
-abbrev answerAt : ℕ → Answer
-answerAt n = get_or answers n Done
+abbrev answer_at : ℕ → Answer
+answer_at n = get_or answers n Done
 
-read_back : (a : Answer) → answerAt (number_of a) ≡ a
+read_back : (a : Answer) → answer_at (number_of a) ≡ a
 read_back Done = refl
 read_back KeyLength = refl
 read_back IvLength = refl
@@ -44,20 +44,20 @@ read_back WrongPhase = refl
 read_back Stale = refl
 read_back Used = refl
 
-pub number-injective : (a b : Answer) → number_of a ≡ number_of b → a ≡ b
-number-injective a b q = sym (read_back a) ∙ ap answerAt q ∙ read_back b
+pub number_injective : (a b : Answer) → number_of a ≡ number_of b → a ≡ b
+number_injective a b q = sym (read_back a) ∙ ap answer_at q ∙ read_back b
 
 -- There are twelve of them.
-pub number-below : (a : Answer) → number_of a < 12
-number-below Done = omega arith
-number-below KeyLength = omega arith
-number-below IvLength = omega arith
-number-below TagLength = omega arith
-number-below AdLong = omega arith
-number-below TextLong = omega arith
-number-below SealedShort = omega arith
-number-below OutputShort = omega arith
-number-below TagDiffers = omega arith
-number-below WrongPhase = omega arith
-number-below Stale = omega arith
-number-below Used = omega arith
+pub number_below : (a : Answer) → number_of a < 12
+number_below Done = omega arith
+number_below KeyLength = omega arith
+number_below IvLength = omega arith
+number_below TagLength = omega arith
+number_below AdLong = omega arith
+number_below TextLong = omega arith
+number_below SealedShort = omega arith
+number_below OutputShort = omega arith
+number_below TagDiffers = omega arith
+number_below WrongPhase = omega arith
+number_below Stale = omega arith
+number_below Used = omega arith

@@ -31,6 +31,6 @@ number_of Stale = 10
 number_of Used = 11
 
 -- the first where the answer's number is 0, the second where it is a refusal's
-abbrev pub ifDone {ℓ} : {A : Type ℓ} → ℕ → A → A → A
-ifDone zero a b = a
-ifDone (suc n) a b = b
+abbrev pub if_done {ℓ} : {A : Type ℓ} → ℕ → A → A → A
+if_done zero a b = a
+if_done (suc n) a b = b

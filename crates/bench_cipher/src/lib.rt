@@ -1,8 +1,8 @@
 // The cipher over many blocks, exported for bench/ to time.
 ghost use Rattle.std.specs.Prelude.{◌≡◌, ◌+◌, ◌≤◌, length, take, drop};
 ghost use Rattle.sbox.specs.Substitution.{Substitutes};
-ghost use Rattle.aes.specs.Cipher.{encipheredBy};
-ghost use Rattle.bench_cipher.specs.Blocks.{eachEnciphered, blocksUnder};
+ghost use Rattle.aes.specs.Cipher.{enciphered_by};
+ghost use Rattle.bench_cipher.specs.Blocks.{each_enciphered, blocks_under};
 
 use aes::encipher_by;
 use octets::put_bytes;
@@ -11,7 +11,7 @@ use schedule::expand;
 // Enciphers each whole block of `blocks` where it stands. A key of fewer than 16 or more than 32 bytes leaves them as they are.
 #[unsafe(no_mangle)]
 pub extern "C" fn bench_encipher(key: &[u8], blocks: &mut [u8])
-    ensures { blocks.new ≡ blocksUnder key.now blocks.old }
+    ensures { blocks.new ≡ blocks_under key.now blocks.old }
 {
     if key.len() < 16 {
         return;
@@ -28,7 +28,7 @@ pub extern "C" fn bench_encipher(key: &[u8], blocks: &mut [u8])
 fn encipher_all(table: &[u8; 256], words: &[u32; 60], rounds: usize, blocks: &mut [u8])
     requires substitutes { Substitutes table.now }
     requires rounds_bound { rounds ≤ 14 }
-    ensures { blocks.new ≡ eachEnciphered (encipheredBy words.now rounds) blocks.old }
+    ensures { blocks.new ≡ each_enciphered (enciphered_by words.now rounds) blocks.old }
 {
     let mut at = 0;
     while 16 <= blocks.len() - at {

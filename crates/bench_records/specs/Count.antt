@@ -1,11 +1,11 @@
 -- How many whole records an input has.
 use Rattle.std.specs.Prelude.{cond, List, [], ◌∷◌, ℕ, ◌+◌, ◌/◌, eqb}
-use Rattle.records.specs.Records.{lineFeed}
+use Rattle.records.specs.Records.{line_feed}
 
-unfoldable pub lineFeeds : List ℕ → ℕ
-lineFeeds [] = 0
-lineFeeds (b ∷ s) = cond (eqb b lineFeed) 1 0 + lineFeeds s
+unfoldable pub line_feeds : List ℕ → ℕ
+line_feeds [] = 0
+line_feeds (b ∷ s) = cond (eqb b line_feed) 1 0 + line_feeds s
 
 -- a line feed ends each of a record's four lines
-abbrev pub wholeRecords : List ℕ → ℕ
-wholeRecords s = lineFeeds s / 4
+abbrev pub whole_records : List ℕ → ℕ
+whole_records s = line_feeds s / 4

@@ -1,7 +1,7 @@
 // The record machine without a sealer behind it, exported for bench/ to time.
 ghost use Rattle.std.specs.Prelude.{◌≡◌};
 ghost use Rattle.records.specs.Remembered.{FieldBuffers};
-ghost use Rattle.bench_records.specs.Count.{wholeRecords};
+ghost use Rattle.bench_records.specs.Count.{whole_records};
 
 use records::machine::{ready, scan};
 
@@ -16,7 +16,7 @@ pub extern "C" fn bench_records(
     input: &[u8],
 ) -> usize
     requires { FieldBuffers key.old iv.old ad.old text.old }
-    ensures { result ≡ wholeRecords input.now }
+    ensures { result ≡ whole_records input.now }
 {
     let mut machine = ready();
     let mut count = 0;

@@ -10,12 +10,12 @@ use Rattle.byte_field.specs.Field.{doubled, multiples, product, squares, inverse
 undone : ℕ → Bool
 undone k = eqb (product (suc k) (inverse (suc k))) 1
 
-all-undone : T (passes undone 255)
+all_undone : T (passes undone 255)
 unfolding undone doubled multiples product squares inverse
-all-undone = tt
+all_undone = tt
 
 pub times-inverse : (a : ℕ) → 0 < a → a < 256 → product a (inverse a) ≡ 1
 unfolding undone
 times-inverse zero positive below = absurd (not-suc-le-zero positive)
 times-inverse (suc a) positive below =
-    eqb→eq (product (suc a) (inverse (suc a))) 1 (passed undone 255 all-undone a (le_of_suc-le-suc below))
+    eqb→eq (product (suc a) (inverse (suc a))) 1 (passed undone 255 all_undone a (le_of_suc-le-suc below))

@@ -7,14 +7,14 @@ unfoldable pub doubled : ℕ → ℕ
 doubled b = bit_xor (b * 2 % 256) (b / 128 * 0x1b)
 
 -- the sum s, with b added to it where the bit is set
-abbrev pub addedIf : ℕ → ℕ → ℕ → ℕ
-addedIf zero b s = s
-addedIf (suc bit) b s = bit_xor s b
+abbrev pub added_if : ℕ → ℕ → ℕ → ℕ
+added_if zero b s = s
+added_if (suc bit) b s = bit_xor s b
 
 -- the sum of b, b doubled, b doubled twice and so on, over those of the n lowest bits of a that are set
 unfoldable pub multiples : ℕ → ℕ → ℕ → ℕ
 multiples zero a b = 0
-multiples (suc n) a b = addedIf (a % 2) b (multiples n (a / 2) (doubled b))
+multiples (suc n) a b = added_if (a % 2) b (multiples n (a / 2) (doubled b))
 
 -- a · b
 unfoldable pub product : ℕ → ℕ → ℕ

@@ -2,7 +2,7 @@
 ghost use Rattle.std.specs.Prelude.{◌≡◌, take};
 
 use answer::{Answer, number};
-use hex::digits::hex_digit;
+use hexadecimal::digits::hex_digit;
 use libc::STDOUT_FILENO;
 
 pub fn say(words: &[u8]) {

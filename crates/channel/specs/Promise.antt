@@ -1,43 +1,43 @@
 -- What each call of a channel promises, for every value of the channel's fields and every length: the number that it answers, the
 -- channel that it hands back, and the bytes, count and tag that belong to it.
 use Rattle.std.specs.Prelude.{◌≡◌, List, ℕ, length}
-use Rattle.answer.specs.Number.{number_of, ifDone}
+use Rattle.answer.specs.Number.{number_of, if_done}
 use Rattle.channel_state.specs.declared.Channel.{Channel}
 use Rattle.channel.specs.declared.Step.{Step}
 use Rattle.channel.specs.declared.Fed.{Fed}
 use Rattle.channel.specs.declared.Finished.{Finished}
 use Rattle.channel_state.specs.State.{
-  openingNumber,
-  openingOf,
-  beginNumber,
-  beginOf,
-  feedNumber,
-  feedOf,
-  feedOut,
-  endNumber,
+  opening_number,
+  opening_of,
+  begin_number,
+  begin_of,
+  feed_number,
+  feed_of,
+  feed_out,
+  end_number,
   end_of,
-  tagOut,
+  tag_out,
 }
 
 pub record OpeningPromise (key mark : List ℕ) (t : ℕ) (r : Step) : Type 0 where
-  pub answer : number_of r.answer ≡ openingNumber (length key) t
-  pub channel : r.channel ≡ openingOf key mark t
+  pub answer : number_of r.answer ≡ opening_number (length key) t
+  pub channel : r.channel ≡ opening_of key mark t
 
 pub record BeginPromise (c : Channel) (n : ℕ) (ad : List ℕ) (r : Step) : Type 0 where
-  pub answer : number_of r.answer ≡ beginNumber c n (length ad)
-  pub channel : r.channel ≡ beginOf c n ad
+  pub answer : number_of r.answer ≡ begin_number c n (length ad)
+  pub channel : r.channel ≡ begin_of c n ad
 
 pub record FeedPromise (c : Channel) (piece out : List ℕ) (r : Fed) (left : List ℕ) : Type 0 where
-  pub answer : number_of r.answer ≡ feedNumber c (length piece) (length out)
-  pub channel : r.channel ≡ feedOf c piece (length out)
-  pub count : r.count ≡ ifDone (feedNumber c (length piece) (length out)) (length piece) 0
-  pub bytes : left ≡ feedOut c piece out
+  pub answer : number_of r.answer ≡ feed_number c (length piece) (length out)
+  pub channel : r.channel ≡ feed_of c piece (length out)
+  pub count : r.count ≡ if_done (feed_number c (length piece) (length out)) (length piece) 0
+  pub bytes : left ≡ feed_out c piece out
 
 pub record FinishPromise (c : Channel) (r : Finished) : Type 0 where
-  pub answer : number_of r.answer ≡ endNumber c
+  pub answer : number_of r.answer ≡ end_number c
   pub channel : r.channel ≡ end_of c
-  pub tag : r.tag ≡ tagOut c
+  pub tag : r.tag ≡ tag_out c
 
 pub record AbandonPromise (c : Channel) (r : Step) : Type 0 where
-  pub answer : number_of r.answer ≡ endNumber c
+  pub answer : number_of r.answer ≡ end_number c
   pub channel : r.channel ≡ end_of c

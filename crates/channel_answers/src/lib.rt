@@ -1,7 +1,7 @@
 // What each call of a channel answers. The phase is looked at first.
 ghost use Rattle.std.specs.Prelude.{◌≡◌, ◌<◌, ◌^◌};
 ghost use Rattle.answer.specs.Number.{number_of};
-ghost use Rattle.channel_state.specs.State.{busy, idle, openingNumber, beginNumber, feedNumber};
+ghost use Rattle.channel_state.specs.State.{busy, idle, opening_number, begin_number, feed_number};
 
 use answer::Answer;
 use channel_state::Channel;
@@ -10,7 +10,7 @@ use rows::{ad_bad, key_bad, tag_bad, text_bad, too_short};
 
 // The answer to opening a channel: row 1, then row 3.
 pub fn opening_answer(key: usize, tag: usize) -> Answer
-    ensures { number_of result ≡ openingNumber key tag }
+    ensures { number_of result ≡ opening_number key tag }
 {
     if key_bad(key) {
         return Answer::KeyLength;
@@ -23,7 +23,7 @@ pub fn opening_answer(key: usize, tag: usize) -> Answer
 
 // The answer to a begin: 9, then row 4, then what the ledger says of the number.
 pub fn begin_answer(c: Channel, n: u64, ad: usize) -> Answer
-    ensures { number_of result ≡ beginNumber c n ad }
+    ensures { number_of result ≡ begin_number c n ad }
 {
     if is_busy(c) {
         return Answer::WrongPhase;
@@ -38,7 +38,7 @@ pub fn begin_answer(c: Channel, n: u64, ad: usize) -> Answer
 // The answer to a feed: 9, then row 5 over the text with this piece, then row 7.
 pub fn feed_answer(c: Channel, piece: usize, room: usize) -> Answer
     requires { piece < 2 ^ 63 }
-    ensures { number_of result ≡ feedNumber c piece room }
+    ensures { number_of result ≡ feed_number c piece room }
 {
     if is_idle(c) {
         return Answer::WrongPhase;

@@ -1,9 +1,9 @@
 // A channel and what its calls make of it: a new one, a message begun, a piece taken in, a message's tag, a message ended.
 ghost use Rattle.std.specs.Prelude.{◌≡◌, ◌++◌, ◌+◌, ◌^◌, ◌≤◌, ◌<◌, length, take, drop};
 ghost use Rattle.pieces.specs.Piece.{sixteen};
-ghost use Rattle.message.specs.Message.{noMessage};
-ghost use Rattle.channel_state.specs.State.{deadChannel, newChannel, begunWith, piece_of, messageWith, withMessage};
-ghost use Rattle.channel_state.specs.State.{roundsIn, messageTag};
+ghost use Rattle.message.specs.Message.{no_message};
+ghost use Rattle.channel_state.specs.State.{dead_channel, new_channel, begun_with, piece_of, message_with, with_message};
+ghost use Rattle.channel_state.specs.State.{rounds_in, message_tag};
 
 use aes::encipher_by;
 use ghash::{block_of, element_of};
@@ -40,7 +40,7 @@ pub struct Channel {
 
 // The dead channel.
 pub fn dead() -> Channel
-    ensures { result ≡ deadChannel }
+    ensures { result ≡ dead_channel }
 {
     Channel {
         words: [0u32; 60],
@@ -57,7 +57,7 @@ pub fn dead() -> Channel
 pub fn new_channel(key: &[u8], mark: Mark, tag_len: usize) -> Channel
     requires in_bounds { (16 ≤ length key.now) × (length key.now ≤ 32) }
     requires tag_len_bound { tag_len ≤ 16 }
-    ensures { result ≡ newChannel key.now mark.0 tag_len }
+    ensures { result ≡ new_channel key.now mark.0 tag_len }
 {
     let table = sbox::table();
     let words = expand(&table, key);
@@ -78,7 +78,7 @@ pub fn new_channel(key: &[u8], mark: Mark, tag_len: usize) -> Channel
 // The channel with a message begun under the number n, which is used from then on.
 pub fn begun(c: Channel, n: u64, ad: &[u8]) -> Channel
     requires { length ad.now < 2 ^ 32 }
-    ensures { result ≡ begunWith c n ad.now }
+    ensures { result ≡ begun_with c n ad.now }
 {
     let h = c.h;
     let ledger = c.ledger;
@@ -115,7 +115,7 @@ pub fn crypt_piece(out: &mut [u8], c: Channel, piece: &[u8])
 // The channel with ciphertext bytes taken into its open message.
 pub fn with_bytes(c: Channel, bytes: &[u8]) -> Channel
     requires { c.message.text + length bytes.now < 2 ^ 32 }
-    ensures { result ≡ withMessage c (messageWith c bytes.now) }
+    ensures { result ≡ with_message c (message_with c bytes.now) }
 {
     let h = c.h;
     let m = c.message;
@@ -127,7 +127,7 @@ pub fn with_bytes(c: Channel, bytes: &[u8]) -> Channel
 
 // The channel with no message; all else stays.
 pub fn ended(c: Channel) -> Channel
-    ensures { result ≡ withMessage c noMessage }
+    ensures { result ≡ with_message c no_message }
 {
     let none = no_message();
     let mut next = c;
@@ -137,14 +137,14 @@ pub fn ended(c: Channel) -> Channel
 
 // How many rounds its cipher has, also where the field holds no count of rounds.
 fn rounds_of(c: Channel) -> usize
-    ensures { result ≡ roundsIn c }
+    ensures { result ≡ rounds_in c }
 {
     if c.rounds == 14 { 14 } else { 10 }
 }
 
 // The tag of the open message, zeros past the tag's length.
 pub fn message_tag(c: Channel) -> [u8; 16]
-    ensures { result ≡ sixteen (take c.tag (messageTag c)) }
+    ensures { result ≡ sixteen (take c.tag (message_tag c)) }
 {
     let table = sbox::table();
     let words = c.words;

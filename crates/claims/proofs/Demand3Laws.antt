@@ -5,19 +5,19 @@ use mathlib.Core.List.{List, []}
 use Prim.Native.Nat.{ℕ}
 use native.Mathlib.Omega.{arith}
 use lib.ListN.{length, get_or, take}
-use Rattle.octets.specs.Block.{blocksFor}
+use Rattle.octets.specs.Block.{blocks_for}
 use Rattle.aes.specs.Cipher.{enciphered}
-use Rattle.mode.specs.Mode.{hashKey, firstBlock, tagBy, wholeTag}
+use Rattle.mode.specs.Mode.{hash_key, first_block, tag_by, whole_tag}
 use Rattle.counter.specs.Counter.{keystream, crypted}
-use Rattle.counter.proofs.InputsLaws.{length-inputs, inputs-first}
-use Rattle.gcm.proofs.Theorems.{message-blocks-differ}
-use Rattle.pieces.specs.Piece.{ivOf}
-use Rattle.channel_state.specs.State.{newChannel}
-use Rattle.channel_state.proofs.StateLaws.{end-done}
+use Rattle.counter.proofs.InputsLaws.{length-inputs, inputs_first}
+use Rattle.gcm.proofs.Theorems.{message_blocks_differ}
+use Rattle.pieces.specs.Piece.{iv_of}
+use Rattle.channel_state.specs.State.{new_channel}
+use Rattle.channel_state.proofs.StateLaws.{end_done}
 use Rattle.runs.specs.Run.{run, accepted, Judged, Newest}
-use Rattle.runs.proofs.CutLaws.{run-keeps, tag-out}
-use Rattle.runs.proofs.RunLaws.{open-message, run-tells, begin-exactly, crypted-opened, messages-crypted}
-use Rattle.runs.proofs.DifferLaws.{all-blocks-differ, no-zero-block, marks-apart}
+use Rattle.runs.proofs.CutLaws.{run_keeps, tag-out}
+use Rattle.runs.proofs.RunLaws.{open_message, run_tells, begin_exactly, crypted-opened, messages-crypted}
+use Rattle.runs.proofs.DifferLaws.{all_blocks_differ, no_zero_block, marks-apart}
 use Rattle.claims.specs.Demand3.{
   LedgerTellsTheHistory,
   NumbersAreJudgedByTheHistory,
@@ -32,61 +32,61 @@ use Rattle.claims.specs.Demand3.{
 
 -- ---- the ledger
 
-pub ledger-tells-the-history : LedgerTellsTheHistory
-ledger-tells-the-history = run-tells
+pub ledger_tells_the_history : LedgerTellsTheHistory
+ledger_tells_the_history = run_tells
 
-pub numbers-are-judged-by-the-history : NumbersAreJudgedByTheHistory
-numbers-are-judged-by-the-history key mark t calls n ad r kept free short =
-    subst (Judged (accepted (newChannel key mark t) calls) n) (sym kept.answer)
-    (begin-exactly key mark t calls n (length ad) free short)
+pub numbers_are_judged_by_the_history : NumbersAreJudgedByTheHistory
+numbers_are_judged_by_the_history key mark t calls n ad r kept free short =
+    subst (Judged (accepted (new_channel key mark t) calls) n) (sym kept.answer)
+    (begin_exactly key mark t calls n (length ad) free short)
 
 -- ---- the blocks
 
 -- the definitions of ciphertext and tag say which blocks each is made of
-pub messages-are-made-of-their-blocks : MessagesAreMadeOfTheirBlocks
-unfolding crypted keystream wholeTag tagBy
-messages-are-made-of-their-blocks =
+pub messages_are_made_of_their_blocks : MessagesAreMadeOfTheirBlocks
+unfolding crypted keystream whole_tag tag_by
+messages_are_made_of_their_blocks =
     record {
       bytes = messages-crypted;
       tags = λ key mark t opened calls r kept done.
-          let h = hashKey (enciphered key) in
-          let c = run (newChannel key mark t) calls in
-          let now = open-message key mark t calls (end-done c (sym kept.answer ∙ done)).1 in
+          let h = hash_key (enciphered key) in
+          let c = run (new_channel key mark t) calls in
+          let now = open_message key mark t calls (end_done c (sym kept.answer ∙ done)).1 in
           let m = now.message in
-          let j = firstBlock h (ivOf mark m.number) in
-          let first = ap (λ (s : List (List ℕ)). get_or s 0 []) (inputs-first j (blocksFor (length m.text))) in
+          let j = first_block h (iv_of mark m.number) in
+          let first = ap (λ (s : List (List ℕ)). get_or s 0 []) (inputs_first j (blocks_for (length m.text))) in
           subst (Newest (TaggedByItsFirstBlock key mark t r.tag)) (sym now.newest)
           (ap (take t) kept.tag
-          ∙ tag-out key mark t opened c (run-keeps (newChannel key mark t) calls) m.number m.ad m.text now.holds
-          ∙ ap₂ (λ (b d : List ℕ). take t (tagBy h (enciphered key) b m.ad d)) (sym first)
+          ∙ tag-out key mark t opened c (run_keeps (new_channel key mark t) calls) m.number m.ad m.text now.holds
+          ∙ ap₂ (λ (b d : List ℕ). take t (tag_by h (enciphered key) b m.ad d)) (sym first)
           (sym (crypted-opened key mark t opened m now.bytes)));
     }
 
-pub blocks-of-all-messages-differ : BlocksOfAllMessagesDiffer
-blocks-of-all-messages-differ = all-blocks-differ
+pub blocks_of_all_messages_differ : BlocksOfAllMessagesDiffer
+blocks_of_all_messages_differ = all_blocks_differ
 
-pub no-block-is-zero : NoBlockIsZero
-no-block-is-zero = no-zero-block
+pub no_block_is_zero : NoBlockIsZero
+no_block_is_zero = no_zero_block
 
-pub different-marks-share-no-block : DifferentMarksShareNoBlock
-different-marks-share-no-block key mark mark' four four' apart t t' calls calls' small small' =
+pub different_marks_share_no_block : DifferentMarksShareNoBlock
+different_marks_share_no_block key mark mark' four four' apart t t' calls calls' small small' =
     marks-apart key mark t calls small key mark' t' calls' small' four four' apart
 
-pub blocks-of-one-message-differ : BlocksOfOneMessageDiffer
-blocks-of-one-message-differ key iv text fits i k less within =
-    let size = length-inputs (firstBlock (hashKey (enciphered key)) iv) (blocksFor (length text)) in
-    message-blocks-differ key iv text fits i k less (omega arith)
+pub blocks_of_one_message_differ : BlocksOfOneMessageDiffer
+blocks_of_one_message_differ key iv text fits i k less within =
+    let size = length-inputs (first_block (hash_key (enciphered key)) iv) (blocks_for (length text)) in
+    message_blocks_differ key iv text fits i k less (omega arith)
 
 -- ---- the demand
 
-pub demand-three : DemandThree
-demand-three =
+pub demand_three : DemandThree
+demand_three =
     record {
-      ledger = ledger-tells-the-history;
-      judged = numbers-are-judged-by-the-history;
-      made = messages-are-made-of-their-blocks;
-      differ = blocks-of-all-messages-differ;
-      nonzero = no-block-is-zero;
-      apart = different-marks-share-no-block;
-      within = blocks-of-one-message-differ;
+      ledger = ledger_tells_the_history;
+      judged = numbers_are_judged_by_the_history;
+      made = messages_are_made_of_their_blocks;
+      differ = blocks_of_all_messages_differ;
+      nonzero = no_block_is_zero;
+      apart = different_marks_share_no_block;
+      within = blocks_of_one_message_differ;
     }

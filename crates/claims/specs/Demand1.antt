@@ -6,17 +6,17 @@ use Rattle.answer.specs.declared.Answer.{Answer}
 use Rattle.answer.specs.declared.Outcome.{Outcome}
 use Rattle.answer.specs.Number.{number_of}
 use Rattle.aes.specs.Cipher.{enciphered}
-use Rattle.ledger.specs.History.{staleIn, usedIn}
+use Rattle.ledger.specs.History.{stale_in, used_in}
 use Rattle.ledger.specs.Ledger.{Tells}
-use Rattle.rows.specs.Rows.{keyBad, tagBad, adBad, textBad, tooShort, Applies, sealRows, open_rows}
+use Rattle.rows.specs.Rows.{key_bad, tag_bad, ad_bad, text_bad, too_short, Applies, seal_rows, open_rows}
 use Rattle.mode.specs.Mode.{genuine}
 use Rattle.gcm.specs.Promise.{SealPromise, OpenPromise}
 use Rattle.channel_state.specs.declared.Channel.{Channel}
 use Rattle.channel.specs.declared.Step.{Step}
 use Rattle.channel.specs.declared.Fed.{Fed}
 use Rattle.channel.specs.declared.Finished.{Finished}
-use Rattle.message.specs.Message.{noMessage}
-use Rattle.channel_state.specs.State.{deadChannel, withMessage, busy, idle, newChannel, begunWith}
+use Rattle.message.specs.Message.{no_message}
+use Rattle.channel_state.specs.State.{dead_channel, with_message, busy, idle, new_channel, begun_with}
 use Rattle.channel.specs.Promise.{OpeningPromise, BeginPromise, FeedPromise, FinishPromise, AbandonPromise}
 
 -- ---- words
@@ -35,21 +35,21 @@ ByRows rows answer =
 
 -- in a channel call 9 is tried first
 abbrev pub NineFirst : Bool → List Bool → Answer → Type 0
-NineFirst wrongPhase rows answer =
-    ((number_of answer ≡ 9) ↔ (wrongPhase ≡ true)) × (wrongPhase ≡ false → ByRows rows answer)
+NineFirst wrong_phase rows answer =
+    ((number_of answer ≡ 9) ↔ (wrong_phase ≡ true)) × (wrong_phase ≡ false → ByRows rows answer)
 
 -- the rows of a channel's opening: 1 and 3
-abbrev pub openingRows : ℕ → ℕ → List Bool
-openingRows key tag = keyBad key ∷ false ∷ tagBad tag ∷ []
+abbrev pub opening_rows : ℕ → ℕ → List Bool
+opening_rows key tag = key_bad key ∷ false ∷ tag_bad tag ∷ []
 
 -- the rows of a begin after 9: 4, 10 and 11
-abbrev pub beginRows : ℕ → Bool → Bool → List Bool
-beginRows ad stale used =
-    false ∷ false ∷ false ∷ adBad ad ∷ false ∷ false ∷ false ∷ false ∷ false ∷ stale ∷ used ∷ []
+abbrev pub begin_rows : ℕ → Bool → Bool → List Bool
+begin_rows ad stale used =
+    false ∷ false ∷ false ∷ ad_bad ad ∷ false ∷ false ∷ false ∷ false ∷ false ∷ stale ∷ used ∷ []
 
 -- the rows of a feed after 9: 5, over the total with this piece, and 7
-abbrev pub feedRows : ℕ → ℕ → ℕ → List Bool
-feedRows total piece room = false ∷ false ∷ false ∷ false ∷ textBad total ∷ false ∷ tooShort room piece ∷ []
+abbrev pub feed_rows : ℕ → ℕ → ℕ → List Bool
+feed_rows total piece room = false ∷ false ∷ false ∷ false ∷ text_bad total ∷ false ∷ too_short room piece ∷ []
 
 -- of an output, n leading bytes were written and no others: it has room for them, and the bytes past them are as they were
 abbrev pub OnlyFront : ℕ → List ℕ → List ℕ → Type 0
@@ -62,7 +62,7 @@ abbrev pub SealAnswersByTheRows : Type 0
 SealAnswersByTheRows =
     (key iv ad text : List ℕ) (tag : ℕ) (out : List ℕ) (result : Outcome) (left : List ℕ)
     → SealPromise key iv ad text tag out result left
-    → ByRows (sealRows (length key) (length iv) (length ad) (length text) tag (length out)) result.answer
+    → ByRows (seal_rows (length key) (length iv) (length ad) (length text) tag (length out)) result.answer
     × (Done result.answer → (result.count ≡ length text + tag) × OnlyFront result.count out left)
     × (Refused result.answer → (result.count ≡ 0) × (left ≡ out))
 
@@ -83,9 +83,9 @@ OpenAnswersByTheRows =
 abbrev pub OpeningAnswersByTheRows : Type 0
 OpeningAnswersByTheRows =
     (key mark : List ℕ) (tag : ℕ) (result : Step) → OpeningPromise key mark tag result
-    → ByRows (openingRows (length key) tag) result.answer
-    × (Done result.answer → result.channel ≡ newChannel key mark tag)
-    × (Refused result.answer → result.channel ≡ deadChannel)
+    → ByRows (opening_rows (length key) tag) result.answer
+    × (Done result.answer → result.channel ≡ new_channel key mark tag)
+    × (Refused result.answer → result.channel ≡ dead_channel)
 
 -- A begin answers 9 while a message is open or the channel is dead, and else by rows 4, 10 and 11: stale and used by the history of
 -- accepted numbers that the ledger tells (after any calls it tells one: demand 3). Refused, it alters nothing in the channel.
@@ -93,8 +93,8 @@ abbrev pub BeginAnswersByTheRows : Type 0
 BeginAnswersByTheRows =
     (channel : Channel) (history : List ℕ) → Tells channel.ledger history
     → (number : ℕ) (ad : List ℕ) (result : Step) → BeginPromise channel number ad result
-    → NineFirst (busy channel) (beginRows (length ad) (staleIn history number) (usedIn history number)) result.answer
-    × (Done result.answer → result.channel ≡ begunWith channel number ad)
+    → NineFirst (busy channel) (begin_rows (length ad) (stale_in history number) (used_in history number)) result.answer
+    × (Done result.answer → result.channel ≡ begun_with channel number ad)
     × (Refused result.answer → result.channel ≡ channel)
 
 -- A feed answers 9 while no message is open, and else by rows 5 and 7 (the channel's total is what was fed: demand 2). Done, it
@@ -102,7 +102,7 @@ BeginAnswersByTheRows =
 abbrev pub FeedAnswersByTheRows : Type 0
 FeedAnswersByTheRows =
     (channel : Channel) (piece out : List ℕ) (result : Fed) (left : List ℕ) → FeedPromise channel piece out result left
-    → NineFirst (idle channel) (feedRows (channel.message.text + length piece) (length piece) (length out)) result.answer
+    → NineFirst (idle channel) (feed_rows (channel.message.text + length piece) (length piece) (length out)) result.answer
     × (Done result.answer → (result.count ≡ length piece) × OnlyFront result.count out left)
     × (Refused result.answer → (result.channel ≡ channel) × (result.count ≡ 0) × (left ≡ out))
 
@@ -113,7 +113,7 @@ FinishAnswersByTheRows =
     (channel : Channel) (result : Finished) → FinishPromise channel result
     → NineFirst (idle channel) [] result.answer
     × (Done result.answer
-    → (result.channel ≡ withMessage channel noMessage) × ((i : ℕ) → channel.tag ≤ i → get_or result.tag i 0 ≡ 0))
+    → (result.channel ≡ with_message channel no_message) × ((i : ℕ) → channel.tag ≤ i → get_or result.tag i 0 ≡ 0))
     × (Refused result.answer → (result.channel ≡ channel) × (result.tag ≡ replicate 16 0))
 
 -- An abandon answers 9 while no message is open, and else 0. Done, every message field is zero and all else stays; refused, nothing
@@ -122,17 +122,17 @@ abbrev pub AbandonAnswersByTheRows : Type 0
 AbandonAnswersByTheRows =
     (channel : Channel) (result : Step) → AbandonPromise channel result
     → NineFirst (idle channel) [] result.answer
-    × (Done result.answer → result.channel ≡ withMessage channel noMessage)
+    × (Done result.answer → result.channel ≡ with_message channel no_message)
     × (Refused result.answer → result.channel ≡ channel)
 
 -- Every call on the dead channel answers 9.
 pub record DeadChannelAnswersNine : Type 0 where
-  pub begins : (number : ℕ) (ad : List ℕ) (result : Step) → BeginPromise deadChannel number ad result
+  pub begins : (number : ℕ) (ad : List ℕ) (result : Step) → BeginPromise dead_channel number ad result
       → number_of result.answer ≡ 9
-  pub feeds : (piece out : List ℕ) (result : Fed) (left : List ℕ) → FeedPromise deadChannel piece out result left
+  pub feeds : (piece out : List ℕ) (result : Fed) (left : List ℕ) → FeedPromise dead_channel piece out result left
       → number_of result.answer ≡ 9
-  pub finishes : (result : Finished) → FinishPromise deadChannel result → number_of result.answer ≡ 9
-  pub abandons : (result : Step) → AbandonPromise deadChannel result → number_of result.answer ≡ 9
+  pub finishes : (result : Finished) → FinishPromise dead_channel result → number_of result.answer ≡ 9
+  pub abandons : (result : Step) → AbandonPromise dead_channel result → number_of result.answer ≡ 9
 
 -- Two results that a promise allows for one input are equal.
 pub record ResultsAreDetermined : Type 0 where

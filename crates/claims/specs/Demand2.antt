@@ -4,16 +4,16 @@ use Rattle.std.specs.Prelude.{◌≡◌, false, List, ◌++◌, ◌↔◌, ◌�
 use Rattle.answer.specs.declared.Outcome.{Outcome}
 use Rattle.answer.specs.Number.{number_of}
 use Rattle.aes.specs.Cipher.{enciphered}
-use Rattle.mode.specs.Mode.{hashKey, firstBlock, sealed}
+use Rattle.mode.specs.Mode.{hash_key, first_block, sealed}
 use Rattle.counter.specs.Counter.{crypted}
-use Rattle.rows.specs.Rows.{longestIv, longestAd, longestText, lowest, openLengthRows}
+use Rattle.rows.specs.Rows.{longest_iv, longest_ad, longest_text, lowest, open_length_rows}
 use Rattle.gcm.specs.Promise.{SealPromise, OpenPromise}
-use Rattle.pieces.specs.Piece.{ivOf}
+use Rattle.pieces.specs.Piece.{iv_of}
 use Rattle.channel_state.specs.declared.Channel.{Channel}
 use Rattle.channel.specs.declared.Step.{Step}
 use Rattle.channel.specs.declared.Fed.{Fed}
 use Rattle.channel.specs.declared.Finished.{Finished}
-use Rattle.channel_state.specs.State.{idle, newChannel, openingNumber, beginNumber, beginOf, feedNumber, endNumber, tagOut}
+use Rattle.channel_state.specs.State.{idle, new_channel, opening_number, begin_number, begin_of, feed_number, end_number, tag_out}
 use Rattle.channel.specs.Promise.{BeginPromise, FeedPromise, FinishPromise, AbandonPromise}
 use Rattle.runs.specs.Run.{
   Call,
@@ -41,7 +41,7 @@ use Rattle.runs.specs.Run.{
 
 -- the key, IV and tag lengths that rules R2.1, R2.2 and R2.3 (rows 1 to 3) let pass
 abbrev pub Allowed : ℕ → ℕ → ℕ → Type 0
-Allowed key iv tag = ((key ≡ 16) ⊎ (key ≡ 32)) × ((1 ≤ iv) × (iv ≤ longestIv)) × ((12 ≤ tag) × (tag ≤ 16))
+Allowed key iv tag = ((key ≡ 16) ⊎ (key ≡ 32)) × ((1 ≤ iv) × (iv ≤ longest_iv)) × ((12 ≤ tag) × (tag ≤ 16))
 
 -- Sealing is AES-GCM as SP 800-38D and FIPS 197 define it, for every key, IV and tag length that the rules let pass: where
 -- associated data and text are within their limits and the output has room, it is done, and its bytes are the sealed form.
@@ -50,8 +50,8 @@ SealIsAesGcm =
     (key iv ad text : List ℕ) (tag : ℕ) (out : List ℕ) (result : Outcome) (left : List ℕ)
     → SealPromise key iv ad text tag out result left
     → Allowed (length key) (length iv) tag
-    → length ad ≤ longestAd
-    → length text ≤ longestText
+    → length ad ≤ longest_ad
+    → length text ≤ longest_text
     → length text + tag ≤ length out
     → (number_of result.answer ≡ 0) × (take result.count left ≡ sealed (enciphered key) iv ad tag text)
 
@@ -62,7 +62,7 @@ abbrev pub OpenRefusesExactlyWithoutText : Type 0
 OpenRefusesExactlyWithoutText =
     (key iv ad bytes : List ℕ) (tag : ℕ) (out : List ℕ) (result : Outcome) (left : List ℕ)
     → OpenPromise key iv ad bytes tag out result left
-    → lowest 1 (openLengthRows (length key) (length iv) (length ad) (length bytes) tag (length out)) ≡ 0
+    → lowest 1 (open_length_rows (length key) (length iv) (length ad) (length bytes) tag (length out)) ≡ 0
     → (number_of result.answer ≡ 8) ↔ ((text : List ℕ) → sealed (enciphered key) iv ad tag text ≡ bytes → ⊥)
 
 -- and else writes the only such text.
@@ -94,43 +94,43 @@ OpenGivesTheTextBack =
 -- speak of: an accepted begin or feed is one that answered 0.
 pub record RunsAreTheCalls : Type 0 where
   pub begun : (channel : Channel) (number : ℕ) (ad : List ℕ) (result : Step) → BeginPromise channel number ad result
-      → (number_of result.answer ≡ beginNumber channel number (length ad))
+      → (number_of result.answer ≡ begin_number channel number (length ad))
       × (result.channel ≡ after channel (begin number ad))
   pub fed : (channel : Channel) (piece out : List ℕ) (result : Fed) (left : List ℕ) → FeedPromise channel piece out result left
       → let bytes = wrote channel (feed piece (length out)) in
-      (number_of result.answer ≡ feedNumber channel (length piece) (length out))
+      (number_of result.answer ≡ feed_number channel (length piece) (length out))
       × (result.channel ≡ after channel (feed piece (length out)))
       × (left ≡ bytes ++ drop (length bytes) out)
   pub finished : (channel : Channel) (result : Finished) → FinishPromise channel result
-      → (number_of result.answer ≡ endNumber channel)
+      → (number_of result.answer ≡ end_number channel)
       × (result.channel ≡ after channel finish)
-      × (result.tag ≡ tagOut channel)
+      × (result.tag ≡ tag_out channel)
   pub abandoned : (channel : Channel) (result : Step) → AbandonPromise channel result
-      → (number_of result.answer ≡ endNumber channel) × (result.channel ≡ after channel abandon)
+      → (number_of result.answer ≡ end_number channel) × (result.channel ≡ after channel abandon)
 
 -- A channel message cut anywhere has the bytes of the whole sealed at once: begun at any point after an opening and fed any pieces,
 -- empty ones too, it can be finished, and its bytes and the tag cut to its length are the sealed form of the joined text.
 abbrev pub CutAnywhereIsTheWhole : Type 0
 CutAnywhereIsTheWhole =
-    (key mark : List ℕ) (tag : ℕ) → openingNumber (length key) tag ≡ 0
+    (key mark : List ℕ) (tag : ℕ) → opening_number (length key) tag ≡ 0
     → (calls : List Call) (number : ℕ) (ad : List ℕ)
-    → beginNumber (run (newChannel key mark tag) calls) number (length ad) ≡ 0
-    → (pieces : List Piece) → Roomy pieces → length (text_of pieces) ≤ longestText
-    → let channel = beginOf (run (newChannel key mark tag) calls) number ad in
-    (endNumber (run channel (feeds pieces)) ≡ 0)
-    × (written channel (feeds pieces) ++ take tag (tagOut (run channel (feeds pieces)))
-    ≡ sealed (enciphered key) (ivOf mark number) ad tag (text_of pieces))
+    → begin_number (run (new_channel key mark tag) calls) number (length ad) ≡ 0
+    → (pieces : List Piece) → Roomy pieces → length (text_of pieces) ≤ longest_text
+    → let channel = begin_of (run (new_channel key mark tag) calls) number ad in
+    (end_number (run channel (feeds pieces)) ≡ 0)
+    × (written channel (feeds pieces) ++ take tag (tag_out (run channel (feeds pieces)))
+    ≡ sealed (enciphered key) (iv_of mark number) ad tag (text_of pieces))
 
 -- After each feed the bytes so far are the leading ciphertext bytes of the text so far.
 abbrev pub BytesSoFarAreCiphertext : Type 0
 BytesSoFarAreCiphertext =
-    (key mark : List ℕ) (tag : ℕ) → openingNumber (length key) tag ≡ 0
+    (key mark : List ℕ) (tag : ℕ) → opening_number (length key) tag ≡ 0
     → (calls : List Call) (number : ℕ) (ad : List ℕ)
-    → beginNumber (run (newChannel key mark tag) calls) number (length ad) ≡ 0
-    → (pieces : List Piece) → Roomy pieces → length (text_of pieces) ≤ longestText
-    → let channel = beginOf (run (newChannel key mark tag) calls) number ad in
+    → begin_number (run (new_channel key mark tag) calls) number (length ad) ≡ 0
+    → (pieces : List Piece) → Roomy pieces → length (text_of pieces) ≤ longest_text
+    → let channel = begin_of (run (new_channel key mark tag) calls) number ad in
     written channel (feeds pieces)
-    ≡ crypted (enciphered key) (firstBlock (hashKey (enciphered key)) (ivOf mark number)) (text_of pieces)
+    ≡ crypted (enciphered key) (first_block (hash_key (enciphered key)) (iv_of mark number)) (text_of pieces)
 
 -- so many bytes of text were fed to a message
 abbrev pub LongAs : ℕ → Sent → Type 0
@@ -140,21 +140,21 @@ LongAs total m = total ≡ length m.text
 -- abandoned or is still open;
 abbrev pub EveryMessageIsCiphertext : Type 0
 EveryMessageIsCiphertext =
-    (key mark : List ℕ) (tag : ℕ) → openingNumber (length key) tag ≡ 0
-    → (calls : List Call) → Every (Crypted key mark) (messages (newChannel key mark tag) calls)
+    (key mark : List ℕ) (tag : ℕ) → opening_number (length key) tag ≡ 0
+    → (calls : List Call) → Every (Crypted key mark) (messages (new_channel key mark tag) calls)
 
 -- where finish answers 0, the newest message's bytes and the tag are the seal at once of its text;
 abbrev pub FinishSealsTheNewest : Type 0
 FinishSealsTheNewest =
-    (key mark : List ℕ) (tag : ℕ) → openingNumber (length key) tag ≡ 0
-    → (calls : List Call) → endNumber (run (newChannel key mark tag) calls) ≡ 0
-    → Newest (SealedWith key mark tag (tagOut (run (newChannel key mark tag) calls))) (messages (newChannel key mark tag) calls)
+    (key mark : List ℕ) (tag : ℕ) → opening_number (length key) tag ≡ 0
+    → (calls : List Call) → end_number (run (new_channel key mark tag) calls) ≡ 0
+    → Newest (SealedWith key mark tag (tag_out (run (new_channel key mark tag) calls))) (messages (new_channel key mark tag) calls)
 
 -- and while a message is open, the channel's total is what was fed to it.
 abbrev pub TotalIsWhatWasFed : Type 0
 TotalIsWhatWasFed =
-    (key mark : List ℕ) (tag : ℕ) (calls : List Call) → idle (run (newChannel key mark tag) calls) ≡ false
-    → Newest (LongAs (run (newChannel key mark tag) calls).message.text) (messages (newChannel key mark tag) calls)
+    (key mark : List ℕ) (tag : ℕ) (calls : List Call) → idle (run (new_channel key mark tag) calls) ≡ false
+    → Newest (LongAs (run (new_channel key mark tag) calls).message.text) (messages (new_channel key mark tag) calls)
 
 -- ---- the demand
 

@@ -4,17 +4,17 @@
 use Rattle.std.specs.Prelude.{◌≡◌, false, List, [], map, ℕ, ◌<◌, ◌≤◌, length, get_or, take, drop, replicate}
 use Rattle.std.specs.Int.Bits.{bit_xor}
 use Rattle.answer.specs.Number.{number_of}
-use Rattle.octets.specs.Block.{number_at, blockBytes, blocksFor}
+use Rattle.octets.specs.Block.{number_at, block_bytes, blocks_for}
 use Rattle.octets.specs.Bytes.{xored, joined}
 use Rattle.aes.specs.Cipher.{enciphered}
 use Rattle.ghash.specs.Hash.{hash}
 use Rattle.ledger.specs.Ledger.{Tells}
-use Rattle.mode.specs.Mode.{hashKey, firstBlock, hashedBlocks}
+use Rattle.mode.specs.Mode.{hash_key, first_block, hashed_blocks}
 use Rattle.counter.specs.Counter.{inputs}
-use Rattle.rows.specs.Rows.{longestText, adBad}
+use Rattle.rows.specs.Rows.{longest_text, ad_bad}
 use Rattle.channel.specs.declared.Step.{Step}
 use Rattle.channel.specs.declared.Finished.{Finished}
-use Rattle.channel_state.specs.State.{busy, openingNumber, newChannel}
+use Rattle.channel_state.specs.State.{busy, opening_number, new_channel}
 use Rattle.channel.specs.Promise.{BeginPromise, FinishPromise}
 use Rattle.runs.specs.Run.{
   Call,
@@ -25,8 +25,8 @@ use Rattle.runs.specs.Run.{
   Judged,
   Newest,
   Every,
-  inputsOf,
-  inputBlocks,
+  inputs_of,
+  input_blocks,
   Differ,
   AllNumbered,
 }
@@ -37,67 +37,67 @@ use Rattle.runs.specs.Run.{
 abbrev pub LedgerTellsTheHistory : Type 0
 LedgerTellsTheHistory =
     (key mark : List ℕ) (tag : ℕ) (calls : List Call)
-    → Tells (run (newChannel key mark tag) calls).ledger (accepted (newChannel key mark tag) calls)
+    → Tells (run (new_channel key mark tag) calls).ledger (accepted (new_channel key mark tag) calls)
 
 -- A number is stale, used or accepted exactly as the history of accepted numbers says, where phase and associated data pass.
 abbrev pub NumbersAreJudgedByTheHistory : Type 0
 NumbersAreJudgedByTheHistory =
     (key mark : List ℕ) (tag : ℕ) (calls : List Call) (number : ℕ) (ad : List ℕ) (result : Step)
-    → BeginPromise (run (newChannel key mark tag) calls) number ad result
-    → busy (run (newChannel key mark tag) calls) ≡ false
-    → adBad (length ad) ≡ false
-    → Judged (accepted (newChannel key mark tag) calls) number (number_of result.answer)
+    → BeginPromise (run (new_channel key mark tag) calls) number ad result
+    → busy (run (new_channel key mark tag) calls) ≡ false
+    → ad_bad (length ad) ≡ false
+    → Judged (accepted (new_channel key mark tag) calls) number (number_of result.answer)
 
 -- ---- the blocks
 
 -- the bytes of a message are its text xor the enciphered input blocks after the first
 abbrev pub MadeOfItsBlocks : List ℕ → List ℕ → Sent → Type 0
 MadeOfItsBlocks key mark m =
-    m.bytes ≡ xored m.text (joined (map (enciphered key) (drop 1 (inputsOf (hashKey (enciphered key)) mark m))))
+    m.bytes ≡ xored m.text (joined (map (enciphered key) (drop 1 (inputs_of (hash_key (enciphered key)) mark m))))
 
 -- the leading t bytes of a tag are those of the message's hash, over associated data, ciphertext and lengths, xor its first input
 -- block enciphered
 abbrev pub TaggedByItsFirstBlock : List ℕ → List ℕ → ℕ → List ℕ → Sent → Type 0
 TaggedByItsFirstBlock key mark t tag m =
-    let h = hashKey (enciphered key) in
-    let first = get_or (inputsOf h mark m) 0 [] in
-    take t tag ≡ take t (blockBytes (bit_xor (hash h (hashedBlocks m.ad m.bytes)) (number_at (enciphered key first) 0)))
+    let h = hash_key (enciphered key) in
+    let first = get_or (inputs_of h mark m) 0 [] in
+    take t tag ≡ take t (block_bytes (bit_xor (hash h (hashed_blocks m.ad m.bytes)) (number_at (enciphered key first) 0)))
 
 -- The blocks that the claims below speak of are those that are really enciphered. Over any calls, each message's bytes are made of
 -- all its blocks but the first; and where a finish answers 0, its tag, cut to its length, is made of the first, J.
 pub record MessagesAreMadeOfTheirBlocks : Type 0 where
-  pub bytes : (key mark : List ℕ) (tag : ℕ) → openingNumber (length key) tag ≡ 0
-      → (calls : List Call) → Every (MadeOfItsBlocks key mark) (messages (newChannel key mark tag) calls)
-  pub tags : (key mark : List ℕ) (tag : ℕ) → openingNumber (length key) tag ≡ 0
-      → (calls : List Call) (result : Finished) → FinishPromise (run (newChannel key mark tag) calls) result
+  pub bytes : (key mark : List ℕ) (tag : ℕ) → opening_number (length key) tag ≡ 0
+      → (calls : List Call) → Every (MadeOfItsBlocks key mark) (messages (new_channel key mark tag) calls)
+  pub tags : (key mark : List ℕ) (tag : ℕ) → opening_number (length key) tag ≡ 0
+      → (calls : List Call) (result : Finished) → FinishPromise (run (new_channel key mark tag) calls) result
       → number_of result.answer ≡ 0
-      → Newest (TaggedByItsFirstBlock key mark tag result.tag) (messages (newChannel key mark tag) calls)
+      → Newest (TaggedByItsFirstBlock key mark tag result.tag) (messages (new_channel key mark tag) calls)
 
 -- The cipher input blocks of all messages all differ, also of those abandoned or still open (a message number has 64 bits),
 abbrev pub BlocksOfAllMessagesDiffer : Type 0
 BlocksOfAllMessagesDiffer =
-    (key mark : List ℕ) (tag : ℕ) (calls : List Call) → AllNumbered calls → Differ (inputBlocks key mark tag calls)
+    (key mark : List ℕ) (tag : ℕ) (calls : List Call) → AllNumbered calls → Differ (input_blocks key mark tag calls)
 
 -- and are never zero.
 abbrev pub NoBlockIsZero : Type 0
 NoBlockIsZero =
     (key mark : List ℕ) (tag : ℕ) (calls : List Call) → AllNumbered calls
-    → (i : ℕ) → i < length (inputBlocks key mark tag calls) → get_or (inputBlocks key mark tag calls) i [] ≡ replicate 16 0 → ⊥
+    → (i : ℕ) → i < length (input_blocks key mark tag calls) → get_or (input_blocks key mark tag calls) i [] ≡ replicate 16 0 → ⊥
 
 -- Channels of one key and different marks share none.
 abbrev pub DifferentMarksShareNoBlock : Type 0
 DifferentMarksShareNoBlock =
     (key mark mark' : List ℕ) → length mark ≡ 4 → length mark' ≡ 4 → (mark ≡ mark' → ⊥)
     → (tag tag' : ℕ) (calls calls' : List Call) → AllNumbered calls → AllNumbered calls'
-    → (i k : ℕ) → i < length (inputBlocks key mark tag calls) → k < length (inputBlocks key mark' tag' calls')
-    → get_or (inputBlocks key mark tag calls) i [] ≡ get_or (inputBlocks key mark' tag' calls') k []
+    → (i k : ℕ) → i < length (input_blocks key mark tag calls) → k < length (input_blocks key mark' tag' calls')
+    → get_or (input_blocks key mark tag calls) i [] ≡ get_or (input_blocks key mark' tag' calls') k []
     → ⊥
 
 -- For an IV of any length, the blocks within one message differ.
 abbrev pub BlocksOfOneMessageDiffer : Type 0
 BlocksOfOneMessageDiffer =
-    (key iv text : List ℕ) → length text ≤ longestText
-    → Differ (inputs (firstBlock (hashKey (enciphered key)) iv) (blocksFor (length text)))
+    (key iv text : List ℕ) → length text ≤ longest_text
+    → Differ (inputs (first_block (hash_key (enciphered key)) iv) (blocks_for (length text)))
 
 -- ---- the demand
 

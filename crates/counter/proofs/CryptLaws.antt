@@ -15,8 +15,8 @@ pub record Reached (e : List ℕ → List ℕ) (j text out₀ counter out : List
   pub front : take at out ++ crypted e counter (drop at text) ≡ crypted e j text
   pub rest : drop at out ≡ drop at out₀
 
-pub reached-none : (e : List ℕ → List ℕ) (j text out : List ℕ) → Reached e j text out j out 0
-reached-none e j text out = record { within = omega arith; kept = refl; front = refl; rest = refl }
+pub reached_none : (e : List ℕ → List ℕ) (j text out : List ℕ) → Reached e j text out j out 0
+reached_none e j text out = record { within = omega arith; kept = refl; front = refl; rest = refl }
 
 -- dropping a block is dropping as many bytes as there are of it
 drop_block : (s : List ℕ) → drop 16 s ≡ drop (min (length s) 16) s
@@ -32,9 +32,9 @@ drop_block s = go (dec_le (length s) 16)
 
 module _ (e : List ℕ → List ℕ) (sixteen : (b : List ℕ) → length (e b) ≡ 16) where
   -- one block, whole or short, as many bytes as there are of it
-  crypted-block : (j text : List ℕ) → 0 < length text
+  crypted_block : (j text : List ℕ) → 0 < length text
       → crypted e j text ≡ take (min (length text) 16) (xored text (e (stepped j))) ++ crypted e (stepped j) (drop (min (length text) 16) text)
-  crypted-block j text some =
+  crypted_block j text some =
       let cut = xored-cut 16 text (e (stepped j)) (rw (sixteen (stepped j)) (omega arith)) in
       let whole : length (xored text (e (stepped j))) ≤ min (length text) 16 = rw (length-xored, sixteen (stepped j)) (omega arith) in
       crypted-more e sixteen j text some
@@ -51,7 +51,7 @@ module _ (e : List ℕ → List ℕ) (sixteen : (b : List ℕ) → length (e b) 
       let in-xor : n ≤ length (xored (drop at text) key) = rw (length-xored, sixteen (stepped counter)) (omega arith) in
       let in-out : at + n ≤ length out = omega (arith, was.kept) in
       let at_out : at ≤ length out = omega arith in
-      let block = rw (sym same-n) at (crypted-block counter (drop at text) (omega arith)) in
+      let block = rw (sym same-n) at (crypted_block counter (drop at text) (omega arith)) in
       record {
         within = omega arith;
         kept = length-paste out at (xored (drop at text) key) n in-out in-xor ∙ was.kept;
@@ -64,10 +64,10 @@ module _ (e : List ℕ → List ℕ) (sixteen : (b : List ℕ) → length (e b) 
             ∙ sym (drop-drop n at out) ∙ ap (drop n) was.rest ∙ drop-drop n at out₀;
       }
 
-  pub reached-all : (j text out₀ counter out : List ℕ) (at : ℕ) → length text ≤ at
+  pub reached_all : (j text out₀ counter out : List ℕ) (at : ℕ) → length text ≤ at
       → Reached e j text out₀ counter out at
       → out ≡ crypted e j text ++ drop (length text) out₀
-  reached-all j text out₀ counter out at all was =
+  reached_all j text out₀ counter out at all was =
       let end : at ≡ length text = omega (arith, was.within) in
       let none : drop at text ≡ [] = drop_of_length-le text all in
       let front : take at out ≡ crypted e j text =

@@ -3,8 +3,8 @@ ghost use Rattle.std.specs.Prelude.{◌≡◌, ◌+◌, ◌≤◌, ◌++◌, len
 ghost use Rattle.std.proofs.Math.Seq.{paste};
 ghost use Rattle.octets.specs.Bytes.{xored};
 ghost use Rattle.sbox.specs.Substitution.{Substitutes};
-ghost use Rattle.aes.specs.Cipher.{encipheredBy};
-ghost use Rattle.counter.specs.Counter.{counterBlock, stepped, crypted};
+ghost use Rattle.aes.specs.Cipher.{enciphered_by};
+ghost use Rattle.counter.specs.Counter.{counter_block, stepped, crypted};
 
 use aes::encipher_by;
 use octets::{block_from, bytes, least, word};
@@ -21,7 +21,7 @@ pub fn step(j: [u8; 16]) -> [u8; 16]
 // The first twelve bytes of s, then the word w.
 pub fn counter_block(s: &[u8], w: u32) -> [u8; 16]
     requires { 12 ≤ length s.now }
-    ensures { result ≡ counterBlock s.now w }
+    ensures { result ≡ counter_block s.now w }
 {
     block_from(
         [s[0], s[1], s[2], s[3]],
@@ -43,7 +43,7 @@ pub fn crypt(
     requires substitutes { Substitutes table.now }
     requires rounds_bound { rounds ≤ 14 }
     requires text_in_bounds { length text.now ≤ length out.old }
-    ensures { out.new ≡ crypted (encipheredBy words.now rounds) j text.now ++ drop (length text.now) out.old }
+    ensures { out.new ≡ crypted (enciphered_by words.now rounds) j text.now ++ drop (length text.now) out.old }
 {
     let mut counter = j;
     let mut at = 0;

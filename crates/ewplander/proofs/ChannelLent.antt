@@ -13,10 +13,10 @@ channel = record {
   struct_laws = C-laws.the_laws;
   struct_plain = C-laws.the_plain;
   Answer = T.the_type;
-  answer-laws = T-laws.the_laws;
+  answer_laws = T-laws.the_laws;
   number = λ r. r.number;
   stored = λ r. r.channel;
-  answer-type = refl;
-  answer-value = λ r. refl;
+  answer_type = refl;
+  answer_value = λ r. refl;
   owed = λ r vs is. ((LL.owed T.the_type T-laws.the_laws r vs is).0.1, (LL.owed T.the_type T-laws.the_laws r vs is).1.0);
 }

@@ -12,29 +12,29 @@ use lib.ListN.{length, get_or, take, drop}
 use lib.Seq.{take_at}
 use Rattle.answer.specs.declared.Outcome.{Outcome}
 use Rattle.answer.specs.Number.{number_of}
-use Rattle.answer.proofs.DoneLaws.{when-done}
-use Rattle.answer.proofs.NumberLaws.{number-injective}
-use Rattle.octets.specs.Block.{blocksFor}
+use Rattle.answer.proofs.DoneLaws.{when_done}
+use Rattle.answer.proofs.NumberLaws.{number_injective}
+use Rattle.octets.specs.Block.{blocks_for}
 use Rattle.aes.specs.Cipher.{enciphered}
 use Rattle.aes.proofs.CipherLaws.{enciphered-sixteen}
-use Rattle.mode.specs.Mode.{hashKey, firstBlock, sealed, genuine, opened}
+use Rattle.mode.specs.Mode.{hash_key, first_block, sealed, genuine, opened}
 use Rattle.counter.specs.Counter.{inputs}
-use Rattle.rows.specs.Rows.{longestText, lowest, Applies, sealRows, openLengthRows, open_rows}
-use Rattle.gcm.specs.Promise.{sealNumber, openNumber, SealPromise, OpenPromise}
+use Rattle.rows.specs.Rows.{longest_text, lowest, Applies, seal_rows, open_length_rows, open_rows}
+use Rattle.gcm.specs.Promise.{seal_number, open_number, SealPromise, OpenPromise}
 use Rattle.counter.proofs.InputsLaws.{inputs-differ}
-use Rattle.rows.proofs.LengthLaws.{seal-allows, open-allows}
+use Rattle.rows.proofs.LengthLaws.{seal_allows, open_allows}
 use Rattle.mode.proofs.ModeLaws.{length-sealed}
-use Rattle.mode.proofs.OpenLaws.{opens-sealed, sealed-genuine, genuine-sealed, refused-exactly, only-text}
-use Rattle.rows.proofs.RowsLaws.{lowest-exactly, lowest-none}
-use Rattle.gcm.proofs.PromiseLaws.{number-by-tag}
+use Rattle.mode.proofs.OpenLaws.{opens-sealed, sealed-genuine, genuine-sealed, refused_exactly, only_text}
+use Rattle.rows.proofs.RowsLaws.{lowest_exactly, lowest_none}
+use Rattle.gcm.proofs.PromiseLaws.{number_by_tag}
 
 -- The cipher input blocks of a message, j and j stepped once for each block of its text, all differ, whatever the IV's length.
-pub message-blocks-differ : (key iv text : List ℕ) → length text ≤ longestText
-    → (i k : ℕ) → i < k → k ≤ blocksFor (length text)
-    → get_or (inputs (firstBlock (hashKey (enciphered key)) iv) (blocksFor (length text))) i []
-    ≡ get_or (inputs (firstBlock (hashKey (enciphered key)) iv) (blocksFor (length text))) k []
+pub message_blocks_differ : (key iv text : List ℕ) → length text ≤ longest_text
+    → (i k : ℕ) → i < k → k ≤ blocks_for (length text)
+    → get_or (inputs (first_block (hash_key (enciphered key)) iv) (blocks_for (length text))) i []
+    ≡ get_or (inputs (first_block (hash_key (enciphered key)) iv) (blocks_for (length text))) k []
     → ⊥
-message-blocks-differ key iv text fits = inputs-differ _ (blocksFor (length text)) (omega arith)
+message_blocks_differ key iv text fits = inputs-differ _ (blocks_for (length text)) (omega arith)
 
 -- two results with one number, one count and one output are equal
 determined : {r r' : Outcome} {left left' bytes : List ℕ} {number count : ℕ}
@@ -42,91 +42,91 @@ determined : {r r' : Outcome} {left left' bytes : List ℕ} {number count : ℕ}
     → number_of r'.answer ≡ number → r'.count ≡ count → left' ≡ bytes
     → (r ≡ r') × (left ≡ left')
 determined {r} {r'} answer count bytes answer' count' bytes' =
-    let one = number-injective r.answer r'.answer (answer ∙ sym answer') in
+    let one = number_injective r.answer r'.answer (answer ∙ sym answer') in
     ((λ i. record { answer = one i; count = (count ∙ sym count') i }), bytes ∙ sym bytes')
 
 module _ (key iv ad text : List ℕ) (t : ℕ) (out : List ℕ) {r : Outcome} {left : List ℕ} (kept : SealPromise key iv ad text t out r left) where
   -- A seal is refused with n exactly when row n applies: its fact holds, and no earlier row's does.
-  pub seal-refused-exactly : (n : ℕ) → 0 < n
-      → (number_of r.answer ≡ n) ↔ Applies (sealRows (length key) (length iv) (length ad) (length text) t (length out)) n
-  unfolding sealNumber
-  seal-refused-exactly = lowest-exactly _ kept.answer
+  pub seal_refused_exactly : (n : ℕ) → 0 < n
+      → (number_of r.answer ≡ n) ↔ Applies (seal_rows (length key) (length iv) (length ad) (length text) t (length out)) n
+  unfolding seal_number
+  seal_refused_exactly = lowest_exactly _ kept.answer
 
   -- A seal is done exactly when no row's fact holds.
-  pub seal-done-exactly : (number_of r.answer ≡ 0)
-      ↔ ((m : ℕ) → get_or (sealRows (length key) (length iv) (length ad) (length text) t (length out)) m false ≡ false)
-  unfolding sealNumber
-  seal-done-exactly = lowest-none _ kept.answer
+  pub seal_done_exactly : (number_of r.answer ≡ 0)
+      ↔ ((m : ℕ) → get_or (seal_rows (length key) (length iv) (length ad) (length text) t (length out)) m false ≡ false)
+  unfolding seal_number
+  seal_done_exactly = lowest_none _ kept.answer
 
   -- Two results that a seal's promise allows for one input are equal.
-  pub seal-determined : {r' : Outcome} {left' : List ℕ} → SealPromise key iv ad text t out r' left' → (r ≡ r') × (left ≡ left')
-  seal-determined other = determined kept.answer kept.count kept.bytes other.answer other.count other.bytes
+  pub seal_determined : {r' : Outcome} {left' : List ℕ} → SealPromise key iv ad text t out r' left' → (r ≡ r') × (left ≡ left')
+  seal_determined other = determined kept.answer kept.count kept.bytes other.answer other.count other.bytes
 
 module _ (key iv ad s : List ℕ) (t : ℕ) (out : List ℕ) {r : Outcome} {left : List ℕ} (kept : OpenPromise key iv ad s t out r left) where
   -- An open is refused with n exactly when row n applies; row 8 is that the bytes are not genuine.
-  pub open-refused-exactly : (n : ℕ) → 0 < n
+  pub open_refused_exactly : (n : ℕ) → 0 < n
       → (number_of r.answer ≡ n)
       ↔ Applies (open_rows (length key) (length iv) (length ad) (length s) t (length out) (not (genuine (enciphered key) iv ad t s))) n
-  unfolding openNumber
-  open-refused-exactly = lowest-exactly _ kept.answer
+  unfolding open_number
+  open_refused_exactly = lowest_exactly _ kept.answer
 
   -- An open is done exactly when no row's fact holds.
-  pub open-done-exactly : (number_of r.answer ≡ 0)
+  pub open_done_exactly : (number_of r.answer ≡ 0)
       ↔ ((m : ℕ) → get_or (open_rows (length key) (length iv) (length ad) (length s) t (length out) (not (genuine (enciphered key) iv ad t s))) m false ≡ false)
-  unfolding openNumber
-  open-done-exactly = lowest-none _ kept.answer
+  unfolding open_number
+  open_done_exactly = lowest_none _ kept.answer
 
   -- Two results that an open's promise allows for one input are equal.
-  pub open-determined : {r' : Outcome} {left' : List ℕ} → OpenPromise key iv ad s t out r' left' → (r ≡ r') × (left ≡ left')
-  open-determined other = determined kept.answer kept.count kept.bytes other.answer other.count other.bytes
+  pub open_determined : {r' : Outcome} {left' : List ℕ} → OpenPromise key iv ad s t out r' left' → (r ≡ r') × (left ≡ left')
+  open_determined other = determined kept.answer kept.count kept.bytes other.answer other.count other.bytes
 
   -- Once lengths pass, an open answers 8 exactly when no text exists whose sealed form the bytes are.
-  pub refused-without-text : lowest 1 (openLengthRows (length key) (length iv) (length ad) (length s) t (length out)) ≡ 0
+  pub refused_without_text : lowest 1 (open_length_rows (length key) (length iv) (length ad) (length s) t (length out)) ≡ 0
       → (number_of r.answer ≡ 8) ↔ ((text : List ℕ) → sealed (enciphered key) iv ad t text ≡ s → ⊥)
   unfolding lowest
-  refused-without-text pass =
-      let tag = (open-allows (length key) (length iv) (length ad) (length s) t (length out) [] pass).0.rest.long-tag in
-      let none = refused-exactly (enciphered key) (enciphered-sixteen key) iv ad t s tag in
-      let number = kept.answer ∙ number-by-tag key iv ad s t out pass in (
-        (λ eight. none.0 (false-tag (genuine (enciphered key) iv ad t s) (sym number ∙ eight))),
+  refused_without_text pass =
+      let tag = (open_allows (length key) (length iv) (length ad) (length s) t (length out) [] pass).0.rest.long_tag in
+      let none = refused_exactly (enciphered key) (enciphered-sixteen key) iv ad t s tag in
+      let number = kept.answer ∙ number_by_tag key iv ad s t out pass in (
+        (λ eight. none.0 (false_tag (genuine (enciphered key) iv ad t s) (sym number ∙ eight))),
         (λ no_text. number ∙ ap (λ g. lowest 8 (not g ∷ [])) (none.1 no_text)),
       )
     where
-      false-tag : (g : Bool) → lowest 8 (not g ∷ []) ≡ 8 → g ≡ false
-      false-tag true zero-is-eight = absurd (omega arith)
-      false-tag false e = refl
+      false_tag : (g : Bool) → lowest 8 (not g ∷ []) ≡ 8 → g ≡ false
+      false_tag true zero-is-eight = absurd (omega arith)
+      false_tag false e = refl
 
   -- With 0 an open writes a text whose sealed form the bytes are, it is the only one, and the rest of the output is as it was.
-  pub opens-to-the-text : number_of r.answer ≡ 0
+  pub opens_to_the_text : number_of r.answer ≡ 0
       → (text : List ℕ)
       × (sealed (enciphered key) iv ad t text ≡ s)
       × ((other : List ℕ) → sealed (enciphered key) iv ad t other ≡ s → other ≡ text)
       × (r.count ≡ length text)
       × (left ≡ text ++ drop (length text) out)
-  unfolding openNumber
-  opens-to-the-text done =
+  unfolding open_number
+  opens_to_the_text done =
       let e = enciphered key in
       let text = opened e iv t s in
-      let clear : openNumber key iv ad s t out ≡ 0 = sym kept.answer ∙ done in
-      let tag = (open-allows (length key) (length iv) (length ad) (length s) t (length out) _ clear).0.rest.long-tag in
-      let true-tag : genuine e iv ad t s ≡ true = not-false _ (open-done-exactly.0 done 7) in
+      let clear : open_number key iv ad s t out ≡ 0 = sym kept.answer ∙ done in
+      let tag = (open_allows (length key) (length iv) (length ad) (length s) t (length out) _ clear).0.rest.long_tag in
+      let true-tag : genuine e iv ad t s ≡ true = not-false _ (open_done_exactly.0 done 7) in
       let form : sealed e iv ad t text ≡ s = genuine-sealed e (enciphered-sixteen key) iv ad t s true-tag in
       let long : length text + t ≡ length s = sym (length-sealed e (enciphered-sixteen key) iv ad t text tag) ∙ ap length form in
       let count : length s - t ≡ length text = omega arith in (
         text,
         form,
-        (λ other q. only-text e (enciphered-sixteen key) iv ad t other text tag (q ∙ sym form)),
-        kept.count ∙ when-done (length s - t) 0 clear ∙ count,
-        kept.bytes ∙ when-done (text ++ drop (length s - t) out) out clear ∙ ap (λ n. text ++ drop n out) count,
+        (λ other q. only_text e (enciphered-sixteen key) iv ad t other text tag (q ∙ sym form)),
+        kept.count ∙ when_done (length s - t) 0 clear ∙ count,
+        kept.bytes ∙ when_done (text ++ drop (length s - t) out) out clear ∙ ap (λ n. text ++ drop n out) count,
       )
 
 -- no row refuses the bytes of a seal that none refused
-reopens : (key iv ad text : List ℕ) (t : ℕ) (out back : List ℕ) → sealNumber key iv ad text t out ≡ 0 → t ≤ 16
+reopens : (key iv ad text : List ℕ) (t : ℕ) (out back : List ℕ) → seal_number key iv ad text t out ≡ 0 → t ≤ 16
     → length text ≤ length back
-    → openNumber key iv ad (sealed (enciphered key) iv ad t text) t back ≡ 0
-unfolding sealNumber openNumber lowest
+    → open_number key iv ad (sealed (enciphered key) iv ad t text) t back ≡ 0
+unfolding seal_number open_number lowest
 reopens key iv ad text t out back clear tag room =
-    let no = (lowest-none (sealRows (length key) (length iv) (length ad) (length text) t (length out)) refl).0 clear in
+    let no = (lowest_none (seal_rows (length key) (length iv) (length ad) (length text) t (length out)) refl).0 clear in
     let long = length-sealed (enciphered key) (enciphered-sixteen key) iv ad t text tag in
     let rest : length text + t - t ≡ length text = omega arith in
     let whole : ltb (length text + t) t ≡ false = le-ltb (length text + t) t (omega arith) in
@@ -134,25 +134,25 @@ reopens key iv ad text t out back clear tag room =
     rw (long, sealed-genuine (enciphered key) iv ad t text tag, whole, rest, fits, no 0, no 1, no 2, no 3, no 4)
 
 -- Opening what was sealed gives the text back: with the same arguments, and an output that has room for it.
-pub opens-what-was-sealed : (key iv ad text : List ℕ) (t : ℕ) (out : List ℕ) {r : Outcome} {left : List ℕ}
+pub opens_what_was_sealed : (key iv ad text : List ℕ) (t : ℕ) (out : List ℕ) {r : Outcome} {left : List ℕ}
     → SealPromise key iv ad text t out r left → number_of r.answer ≡ 0
     → (back : List ℕ) {r' : Outcome} {left' : List ℕ}
     → OpenPromise key iv ad (take r.count left) t back r' left' → length text ≤ length back
     → (number_of r'.answer ≡ 0) × (take r'.count left' ≡ text)
-unfolding sealNumber
-opens-what-was-sealed key iv ad text t out {r} {left} kept done back {r'} {left'} kept' room =
+unfolding seal_number
+opens_what_was_sealed key iv ad text t out {r} {left} kept done back {r'} {left'} kept' room =
     let e = enciphered key in
     let s = sealed e iv ad t text in
     let n = length text + t in
-    let clear : sealNumber key iv ad text t out ≡ 0 = sym kept.answer ∙ done in
-    let tag = (seal-allows (length key) (length iv) (length ad) (length text) t (length out) clear).0.rest.long-tag in
+    let clear : seal_number key iv ad text t out ≡ 0 = sym kept.answer ∙ done in
+    let tag = (seal_allows (length key) (length iv) (length ad) (length text) t (length out) clear).0.rest.long_tag in
     let long : length s ≡ n = length-sealed e (enciphered-sixteen key) iv ad t text tag in
     let given : take r.count left ≡ s =
-    ap₂ take (kept.count ∙ when-done n 0 clear) (kept.bytes ∙ when-done _ out clear) ∙ take_at s (drop n out) n long in
+    ap₂ take (kept.count ∙ when_done n 0 clear) (kept.bytes ∙ when_done _ out clear) ∙ take_at s (drop n out) n long in
     let kept'' : OpenPromise key iv ad s t back r' left' = subst (λ bytes. OpenPromise key iv ad bytes t back r' left') given kept' in
     let clear' = reopens key iv ad text t out back clear tag room in
     let rest : length s - t ≡ length text = omega arith in
-    let count' : r'.count ≡ length text = kept''.count ∙ when-done (length s - t) 0 clear' ∙ rest in
+    let count' : r'.count ≡ length text = kept''.count ∙ when_done (length s - t) 0 clear' ∙ rest in
     let text' : left' ≡ text ++ drop (length s - t) back =
-    kept''.bytes ∙ when-done _ back clear' ∙ ap (λ x. x ++ drop (length s - t) back) (opens-sealed e (enciphered-sixteen key) iv ad t text tag) in
+    kept''.bytes ∙ when_done _ back clear' ∙ ap (λ x. x ++ drop (length s - t) back) (opens-sealed e (enciphered-sixteen key) iv ad t text tag) in
     (kept''.answer ∙ clear', ap₂ take count' text' ∙ take_at text (drop (length s - t) back) (length text) refl)

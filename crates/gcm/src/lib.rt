@@ -1,9 +1,9 @@
 // AES-GCM at once: SP 800-38D's mode over FIPS 197's cipher. Any lengths may be handed in; rules R2.1 to R2.7 refuse bad ones.
 ghost use Rattle.std.specs.Prelude.{◌≡◌, ◌+◌, ◌-◌, ◌≤◌, length};
 ghost use Rattle.sbox.specs.Substitution.{Substitutes};
-ghost use Rattle.aes.specs.Cipher.{encipheredBy, enciphered};
+ghost use Rattle.aes.specs.Cipher.{enciphered_by, enciphered};
 ghost use Rattle.rows.specs.Passed.{Fitting, Passed};
-ghost use Rattle.gcm.specs.Promise.{SealPromise, OpenPromise, OpenedBy, sealedInto};
+ghost use Rattle.gcm.specs.Promise.{SealPromise, OpenPromise, OpenedBy, sealed_into};
 
 use answer::{Answer, Outcome, is_done};
 use counter::crypt;
@@ -81,7 +81,7 @@ pub fn open(
 fn seal_allowed(out: &mut [u8], key: &[u8], iv: &[u8], ad: &[u8], text: &[u8], tag_len: usize)
     requires passed { Passed (length key.now) (length iv.now) (length ad.now) (length text.now) tag_len }
     requires tag_len_in_bounds { length text.now + tag_len ≤ length out.old }
-    ensures { out.new ≡ sealedInto (enciphered key.now) iv.now ad.now tag_len text.now out.old }
+    ensures { out.new ≡ sealed_into (enciphered key.now) iv.now ad.now tag_len text.now out.old }
 {
     let table = sbox::table();
     let words = expand(&table, key);
@@ -111,7 +111,7 @@ fn seal_by(
     requires rounds_bound { rounds ≤ 14 }
     requires fitting { Fitting (length iv.now) (length ad.now) (length text.now) tag_len }
     requires tag_len_in_bounds { length text.now + tag_len ≤ length out.old }
-    ensures { out.new ≡ sealedInto (encipheredBy words.now rounds) iv.now ad.now tag_len text.now out.old }
+    ensures { out.new ≡ sealed_into (enciphered_by words.now rounds) iv.now ad.now tag_len text.now out.old }
 {
     let h = hash_key(table, words, rounds);
     let j = first_block(h, iv);
@@ -162,7 +162,7 @@ fn open_by(
     requires rounds_bound { rounds ≤ 14 }
     requires fitting { Fitting (length iv.now) (length ad.now) (length sealed.now - tag_len) tag_len }
     requires tag_len_in_bounds { (tag_len ≤ length sealed.now) × (length sealed.now - tag_len ≤ length out.old) }
-    ensures { OpenedBy (encipheredBy words.now rounds) iv.now ad.now tag_len sealed.now out.old result out.new }
+    ensures { OpenedBy (enciphered_by words.now rounds) iv.now ad.now tag_len sealed.now out.old result out.new }
 {
     let h = hash_key(table, words, rounds);
     let j = first_block(h, iv);

@@ -2,10 +2,10 @@
 ghost use Rattle.std.specs.Prelude.{◌≡◌, ◌^◌, ◌≤◌, ◌<◌, length, get_or};
 ghost use Rattle.std.specs.Int.Bits.{bit_xor};
 ghost use Rattle.octets.specs.Word.{word_at};
-ghost use Rattle.octets.specs.Block.{number_at, blockBytes, padded};
+ghost use Rattle.octets.specs.Block.{number_at, block_bytes, padded};
 ghost use Rattle.hash_field.specs.Element.{value_of};
 ghost use Rattle.hash_field.specs.Field.{product};
-ghost use Rattle.ghash.specs.Hash.{hashFrom, lengthBlock};
+ghost use Rattle.ghash.specs.Hash.{hash_from, length_block};
 
 use hash_field::{Element, multiply, plus};
 use octets::{block_from, bytes, long, long_at, word};
@@ -64,7 +64,7 @@ pub fn element_of(block: [u8; 16]) -> Element
 
 // The sixteen bytes of an element.
 pub fn block_of(e: Element) -> [u8; 16]
-    ensures { result ≡ blockBytes (value_of e) }
+    ensures { result ≡ block_bytes (value_of e) }
 {
     block_from(
         bytes((e.high >> 32) as u32),
@@ -83,7 +83,7 @@ pub fn absorb(h: Element, sum: Element, x: Element) -> Element
 
 // The hash after the blocks of s, zero-padded to whole blocks, where it was `sum` (SP 800-38D: GHASH).
 pub fn hash_bytes(h: Element, sum: Element, s: &[u8]) -> Element
-    ensures { value_of result ≡ hashFrom (value_of h) (value_of sum) (padded s.now) }
+    ensures { value_of result ≡ hash_from (value_of h) (value_of sum) (padded s.now) }
 {
     let mut state = sum;
     let mut at = 0;
@@ -101,7 +101,7 @@ pub fn hash_bytes(h: Element, sum: Element, s: &[u8]) -> Element
 // The block of two lengths in bytes, as their counts of bits.
 pub fn length_block(a: usize, b: usize) -> Element
     requires { (a < 2 ^ 61) × (b < 2 ^ 61) }
-    ensures { value_of result ≡ lengthBlock a b }
+    ensures { value_of result ≡ length_block a b }
 {
     Element {
         high: (a as u64) * 8,

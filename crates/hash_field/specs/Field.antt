@@ -8,13 +8,13 @@ abbrev pub one : ℕ
 one = 2 ^ 127
 
 -- multiplying by a shifts every bit toward the last byte by one and, if x127 fell out, xors e1 into byte 0
-unfoldable pub timesA : ℕ → ℕ
-timesA y = bit_xor (y / 2) (y % 2 * (0xe1 * 2 ^ 120))
+unfoldable pub times_a : ℕ → ℕ
+times_a y = bit_xor (y / 2) (y % 2 * (0xe1 * 2 ^ 120))
 
 -- the xor, over the set ones among the n lowest bits of x, from the highest of them on, of y, y·a, y·a^2 and so on
 unfoldable pub sum_of : ℕ → ℕ → ℕ → ℕ
 sum_of zero x y = 0
-sum_of (suc n) x y = bit_xor (x / 2 ^ n % 2 * y) (sum_of n x (timesA y))
+sum_of (suc n) x y = bit_xor (x / 2 ^ n % 2 * y) (sum_of n x (times_a y))
 
 -- the product of x and y: the xor, over all i with x_i set, of y·a^i
 unfoldable pub product : ℕ → ℕ → ℕ

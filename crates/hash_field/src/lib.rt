@@ -1,8 +1,8 @@
 // The hash field of SP 800-38D: its elements, their sum and their product.
 ghost use Rattle.std.specs.Prelude.{◌≡◌, ◌*◌, ◌<◌};
 ghost use Rattle.std.specs.Int.Bits.{bit_xor};
-ghost use Rattle.hash_field.specs.Element.{value_of, timesPower};
-ghost use Rattle.hash_field.specs.Field.{timesA, sum_of, product};
+ghost use Rattle.hash_field.specs.Element.{value_of, times_power};
+ghost use Rattle.hash_field.specs.Field.{times_a, sum_of, product};
 
 // An element of the hash field: a block's first and last eight bytes, each as a big-endian number.
 #[repr(C)]
@@ -24,7 +24,7 @@ pub fn plus(a: Element, b: Element) -> Element
 
 // y·a: every bit one place toward the last byte, and e1 into byte 0 if one fell out.
 fn times_a(y: Element) -> Element
-    ensures { value_of result ≡ timesA (value_of y) }
+    ensures { value_of result ≡ times_a (value_of y) }
 {
     Element {
         high: (y.high >> 1) ^ ((y.low % 2) * 0xe100000000000000),
@@ -53,7 +53,7 @@ struct Partial {
 // The sum with y, y·a, y·a^2 and so on added, over those of 64 bits that are set, the highest first.
 fn add_powers(bits: u64, sum: Element, y: Element) -> Partial
     ensures sum_value { value_of result.sum ≡ bit_xor (value_of sum) (sum_of 64 bits (value_of y)) }
-    ensures power_value { value_of result.power ≡ timesPower 64 (value_of y) }
+    ensures power_value { value_of result.power ≡ times_power 64 (value_of y) }
 {
     let mut so_far = sum;
     let mut power = y;

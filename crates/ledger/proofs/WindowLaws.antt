@@ -7,45 +7,45 @@ use native.Mathlib.Nat.{add-mul-div_right, add-mul-mod_self_right, mul-div-mul_r
 use lib.Bits.{bit_or, or_block, or_shifted, or_zero_r}
 use lib.Pow.{pow_pos, pow-add, split, high, low, mod-pow-add, shl-shr, shr_lt}
 use Rattle.ledger.specs.declared.Ledger.{Ledger}
-use Rattle.ledger.specs.Ledger.{windowOf, ledgerOf, markAt}
-use Rattle.ledger.proofs.MarkLaws.{mark-cut, mark-down}
+use Rattle.ledger.specs.Ledger.{window_of, ledger_of, mark_at}
+use Rattle.ledger.proofs.MarkLaws.{mark-cut, mark_down}
 
 -- ---- a ledger and its window
 
 -- The window of the ledger of a window.
-pub window-ledger : (top w : ℕ) → windowOf (ledgerOf top w) ≡ w
-unfolding windowOf ledgerOf
-window-ledger top w = split w 64
+pub window_ledger : (top w : ℕ) → window_of (ledger_of top w) ≡ w
+unfolding window_of ledger_of
+window_ledger top w = split w 64
 
 -- The ledger of a window whose halves are f and n.
-pub ledger-halves : (top f n : ℕ) → n < 2 ^ 64 → ledgerOf top (f * 2 ^ 64 + n) ≡ record { high = top; near = n; far = f }
-unfolding ledgerOf
-ledger-halves top f n below =
+pub ledger_halves : (top f n : ℕ) → n < 2 ^ 64 → ledger_of top (f * 2 ^ 64 + n) ≡ record { high = top; near = n; far = f }
+unfolding ledger_of
+ledger_halves top f n below =
     ap₂ (λ (a b : ℕ). record { high = top; near = a; far = b }) (low f 64 below) (high f 64 below)
 
 -- A ledger is the one of its highest number and its window.
-pub ledger-window : (l : Ledger) → l.near < 2 ^ 64 → ledgerOf l.high (windowOf l) ≡ l
-unfolding windowOf
-ledger-window l below = ledger-halves l.high l.far l.near below
+pub ledger_window : (l : Ledger) → l.near < 2 ^ 64 → ledger_of l.high (window_of l) ≡ l
+unfolding window_of
+ledger_window l below = ledger_halves l.high l.far l.near below
 
 -- ---- reading a mark
 
-pub mark-near : (m f n d : ℕ) → n < 2 ^ m → d < m → markAt n d ≡ markAt (f * 2 ^ m + n) d
-mark-near m f n d below place = ap (λ (w : ℕ). markAt w d) (sym (low f m below)) ∙ mark-cut m d (f * 2 ^ m + n) place
+pub mark_near : (m f n d : ℕ) → n < 2 ^ m → d < m → mark_at n d ≡ mark_at (f * 2 ^ m + n) d
+mark_near m f n d below place = ap (λ (w : ℕ). mark_at w d) (sym (low f m below)) ∙ mark-cut m d (f * 2 ^ m + n) place
 
-pub mark-far : (m f n d : ℕ) → n < 2 ^ m → markAt f d ≡ markAt (f * 2 ^ m + n) (m + d)
-mark-far m f n d below = ap (λ (w : ℕ). markAt w d) (sym (high f m below)) ∙ mark-down (f * 2 ^ m + n) m d
+pub mark_far : (m f n d : ℕ) → n < 2 ^ m → mark_at f d ≡ mark_at (f * 2 ^ m + n) (m + d)
+mark_far m f n d below = ap (λ (w : ℕ). mark_at w d) (sym (high f m below)) ∙ mark_down (f * 2 ^ m + n) m d
 
 -- ---- setting a mark
 
-pub or-near : (m f n b : ℕ) → n < 2 ^ m → b < 2 ^ m → bit_or (f * 2 ^ m + n) b ≡ f * 2 ^ m + bit_or n b
-or-near m f n b below small =
+pub or_near : (m f n b : ℕ) → n < 2 ^ m → b < 2 ^ m → bit_or (f * 2 ^ m + n) b ≡ f * 2 ^ m + bit_or n b
+or_near m f n b below small =
     ap (bit_or (f * 2 ^ m + n)) (sym (ap (λ (a : ℕ). a + b) (zero-mul (2 ^ m)) ∙ zero-add b))
     ∙ or_block m f 0 n b below small
     ∙ ap (λ (a : ℕ). a * 2 ^ m + bit_or n b) (or_zero_r f)
 
-pub or-far : (m f n b : ℕ) → n < 2 ^ m → bit_or (f * 2 ^ m + n) (b * 2 ^ m) ≡ bit_or f b * 2 ^ m + n
-or-far m f n b below =
+pub or_far : (m f n b : ℕ) → n < 2 ^ m → bit_or (f * 2 ^ m + n) (b * 2 ^ m) ≡ bit_or f b * 2 ^ m + n
+or_far m f n b below =
     ap (bit_or (f * 2 ^ m + n)) (sym (add-zero (b * 2 ^ m)))
     ∙ or_block m f b n 0 below (pow_pos m)
     ∙ ap (λ (a : ℕ). bit_or f b * 2 ^ m + a) (or_zero_r n)
@@ -73,10 +73,10 @@ carried j k f q small =
         ∙ add-zero (f % 2 ^ j * 2 ^ k)
 
 -- A shift by k, in halves of j + k bits.
-pub shift-within : (j k f n : ℕ) → n < 2 ^ (j + k)
+pub shift_within : (j k f n : ℕ) → n < 2 ^ (j + k)
     → (f * 2 ^ (j + k) + n) * 2 ^ k % 2 ^ (j + k + (j + k))
     ≡ bit_or (f * 2 ^ k % 2 ^ (j + k)) (n / 2 ^ j) * 2 ^ (j + k) + n * 2 ^ k % 2 ^ (j + k)
-shift-within j k f n below =
+shift_within j k f n below =
     let m = j + k in
     let x = n * 2 ^ k + f * 2 ^ k * 2 ^ m in
     ap (λ (a : ℕ). a % 2 ^ (m + m)) (spread f n (2 ^ m) (2 ^ k))
@@ -93,9 +93,9 @@ shift-within j k f n below =
     small = shr_lt k j (subst (λ (a : ℕ). n < 2 ^ a) (add_comm j k) below)
 
 -- A shift by m + j, in halves of m bits.
-pub shift-across : (m j f n : ℕ)
+pub shift_across : (m j f n : ℕ)
     → (f * 2 ^ m + n) * 2 ^ (j + m) % 2 ^ (m + m) ≡ n * 2 ^ j % 2 ^ m * 2 ^ m + 0
-shift-across m j f n =
+shift_across m j f n =
     let x = (f * 2 ^ m + n) * 2 ^ j in
     ap (λ (a : ℕ). a % 2 ^ (m + m))
     (ap (λ (a : ℕ). (f * 2 ^ m + n) * a) (pow-add 2 j m) ∙ sym (mul_assoc (f * 2 ^ m + n) (2 ^ j) (2 ^ m)))

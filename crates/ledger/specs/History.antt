@@ -6,24 +6,24 @@ abbrev pub reach : ℕ
 reach = 128
 
 -- stale: an accepted number minus this one is 128 or more, and so the highest accepted number minus this one
-unfoldable pub staleIn : List ℕ → ℕ → Bool
-staleIn [] n = false
-staleIn (a ∷ h) n = leb (n + reach) a || staleIn h n
+unfoldable pub stale_in : List ℕ → ℕ → Bool
+stale_in [] n = false
+stale_in (a ∷ h) n = leb (n + reach) a || stale_in h n
 
 -- accepted before
-unfoldable pub usedIn : List ℕ → ℕ → Bool
-usedIn [] n = false
-usedIn (a ∷ h) n = eqb a n || usedIn h n
+unfoldable pub used_in : List ℕ → ℕ → Bool
+used_in [] n = false
+used_in (a ∷ h) n = eqb a n || used_in h n
 
 -- the answer's number: stale; else used; else done
-abbrev pub answerFor : Bool → Bool → ℕ
-answerFor stale used = cond stale 10 (cond used 11 0)
+abbrev pub answer_for : Bool → Bool → ℕ
+answer_for stale used = cond stale 10 (cond used 11 0)
 
 -- the answer's number for n
-unfoldable pub verdictIn : List ℕ → ℕ → ℕ
-verdictIn h n = answerFor (staleIn h n) (usedIn h n)
+unfoldable pub verdict_in : List ℕ → ℕ → ℕ
+verdict_in h n = answer_for (stale_in h n) (used_in h n)
 
 -- the highest accepted number; 0 where none was accepted
-unfoldable pub highestOf : List ℕ → ℕ
-highestOf [] = 0
-highestOf (a ∷ h) = max a (highestOf h)
+unfoldable pub highest_of : List ℕ → ℕ
+highest_of [] = 0
+highest_of (a ∷ h) = max a (highest_of h)

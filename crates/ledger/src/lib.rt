@@ -3,7 +3,7 @@ mod window;
 
 ghost use Rattle.std.specs.Prelude.{◌≡◌};
 ghost use Rattle.answer.specs.Number.{number_of};
-ghost use Rattle.ledger.specs.Ledger.{freshLedger, verdictOf, acceptedBy};
+ghost use Rattle.ledger.specs.Ledger.{fresh_ledger, verdict_of, accepted_by};
 
 use answer::Answer;
 use window::{has_mark, mark, raise};
@@ -22,7 +22,7 @@ pub struct Ledger {
 
 // The ledger that accepted nothing.
 pub fn fresh() -> Ledger
-    ensures { result ≡ freshLedger }
+    ensures { result ≡ fresh_ledger }
 {
     Ledger {
         high: 0,
@@ -33,7 +33,7 @@ pub fn fresh() -> Ledger
 
 // Whether the number n may be accepted: `Done`, or `Stale`, or `Used`.
 pub fn verdict(l: Ledger, n: u64) -> Answer
-    ensures { number_of result ≡ verdictOf l n }
+    ensures { number_of result ≡ verdict_of l n }
 {
     if l.high < n {
         return Answer::Done;
@@ -50,7 +50,7 @@ pub fn verdict(l: Ledger, n: u64) -> Answer
 
 // The ledger with the number n accepted.
 pub fn accept(l: Ledger, n: u64) -> Ledger
-    ensures { result ≡ acceptedBy l n }
+    ensures { result ≡ accepted_by l n }
 {
     let raised = raise(l, n);
     mark(raised, raised.high - n)

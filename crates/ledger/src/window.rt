@@ -1,14 +1,14 @@
 // The window of a ledger: its marks are read, set and shifted in two halves of 64 bits.
 ghost use Rattle.std.specs.Prelude.{◌≡◌, ◌<◌};
 ghost use Rattle.ledger.specs.History.{reach};
-ghost use Rattle.ledger.specs.Ledger.{windowOf, ledgerOf, markAt, shifted_by, raisedTo, markedAt};
+ghost use Rattle.ledger.specs.Ledger.{window_of, ledger_of, mark_at, shifted_by, raised_to, marked_at};
 
 use super::{Ledger, REACH};
 
 // Whether the number d below the highest is marked.
 pub fn has_mark(l: Ledger, d: u64) -> bool
     requires { d < reach }
-    ensures { result ≡ markAt (windowOf l) d }
+    ensures { result ≡ mark_at (window_of l) d }
 {
     if d < 64 {
         return (l.near >> d) % 2 == 1;
@@ -18,7 +18,7 @@ pub fn has_mark(l: Ledger, d: u64) -> bool
 
 // The same marks, with n as the highest number if it is higher.
 pub fn raise(l: Ledger, n: u64) -> Ledger
-    ensures { result ≡ raisedTo l n }
+    ensures { result ≡ raised_to l n }
 {
     if n <= l.high {
         return l;
@@ -34,7 +34,7 @@ pub fn raise(l: Ledger, n: u64) -> Ledger
 // Each mark k places up; those that leave the window are forgotten.
 fn shift(l: Ledger, k: u64) -> Ledger
     requires { 0 < k }
-    ensures { result ≡ ledgerOf l.high (shifted_by (windowOf l) k) }
+    ensures { result ≡ ledger_of l.high (shifted_by (window_of l) k) }
 {
     if REACH <= k {
         return Ledger {
@@ -59,7 +59,7 @@ fn shift(l: Ledger, k: u64) -> Ledger
 
 // The number d below the highest is marked, if the window reaches it.
 pub fn mark(l: Ledger, d: u64) -> Ledger
-    ensures { result ≡ markedAt l d }
+    ensures { result ≡ marked_at l d }
 {
     if d < 64 {
         return Ledger {

@@ -1,5 +1,5 @@
 -- A function f that lends a struct meets its contract wherever its callee g does, if f says of the lent memory and of its result
--- what g says of the struct and the number of its answer (`lent-proved`). It holds by the walk along f's code, because the other
+-- what g says of the struct and the number of its answer (`lent_proved`). It holds by the walk along f's code, because the other
 -- parameters are handed on as they are: what g leaves of them at exit is what f has to.
 -- f is `let r = g(*s, ..); *s = r.part; r.number`, or the same without `*s`; its other parameters are g's, in g's order: unsigned
 -- numbers, references and slices. Neither has a `requires`, and g answers with a struct of a `u32` and the struct that is stored.
@@ -36,8 +36,8 @@ use denote.Struct.Declared.{row}
 use denote.Struct.Laws as LL
 use denote.Triple.Statement.{Contract, Triple}
 use denote.Triple.Table.{entered, cited}
-use Rattle.lent.proofs.AgainLaws.{Goes, as_is, ref-again, slice-again, value, values}
-use Rattle.lent.proofs.WalkLaws.{Lent, if-taken, Lends, loan, walks}
+use Rattle.lent.proofs.AgainLaws.{Goes, as_is, ref_again, slice_again, value, values}
+use Rattle.lent.proofs.WalkLaws.{Lent, if_taken, Lends, loan, walks}
 
 -- ---- how a parameter of a type is passed on
 pub record Passes (R : RattleType) : Type 2 where
@@ -49,8 +49,8 @@ abbrev pub word : (w : Width) → Passes (UInt w)
 word w = record { goes = λ x. as_is (vint w x); tells = uint_Tells w; lawful = λ 𝓛. uint_Lawful 𝓛 w }
 
 module _ {ℓ : Lifetime} {κ : Lft} (R : RattleType) where
-  abbrev pub lent-in : Passes (ShrRef ℓ κ R)
-  lent-in = record {
+  abbrev pub lent_in : Passes (ShrRef ℓ κ R)
+  lent_in = record {
     goes = λ x. as_is (vptr x.ptr.0 x.ptr.1);
     tells = shr_Tells ℓ κ R;
     lawful = λ 𝓛. shr_Lawful 𝓛 ℓ κ R;
@@ -58,7 +58,7 @@ module _ {ℓ : Lifetime} {κ : Lft} (R : RattleType) where
 
   abbrev pub lent_out : Passes (MutRef ℓ κ R)
   lent_out = record {
-    goes = λ x. ref-again (lone R.mir) x.ptr.0 x.ptr.1;
+    goes = λ x. ref_again (lone R.mir) x.ptr.0 x.ptr.1;
     tells = mut_Tells ℓ κ R;
     lawful = λ 𝓛. mut_Lawful 𝓛 ℓ κ R;
   }
@@ -72,7 +72,7 @@ module _ {ℓ : Lifetime} {κ : Lft} (R : RattleType) where
 
   abbrev pub slice_out : Passes (MutSlice ℓ κ R)
   slice_out = record {
-    goes = λ x. slice-again (lone R.mir) x.ref_ptr.0 x.ref_ptr.1 (length x.now);
+    goes = λ x. slice_again (lone R.mir) x.ref_ptr.0 x.ref_ptr.1 (length x.now);
     tells = mut_slice_Tells ℓ κ R;
     lawful = λ 𝓛. mut_slice_Lawful 𝓛 ℓ κ R;
   }
@@ -93,10 +93,10 @@ abbrev all_told : (Rs : List RattleType) (ps : AllPass Rs) → Tellss Rs (Ises R
 all_told [] ps = tt
 all_told (R ∷ Rs) ps = (ps.0.tells, all_told Rs ps.1)
 
-abbrev all-lawful : {M : Type 1} {𝓤 : Ura M} (𝓛 : Logic 𝓤) (Rs : List RattleType) → AllPass Rs
+abbrev all_lawful : {M : Type 1} {𝓤 : Ura M} (𝓛 : Logic 𝓤) (Rs : List RattleType) → AllPass Rs
     → Lawfuls 𝓛 Rs
-all-lawful 𝓛 [] ps = tt
-all-lawful 𝓛 (R ∷ Rs) ps = (ps.0.lawful 𝓛, all-lawful 𝓛 Rs ps.1)
+all_lawful 𝓛 [] ps = tt
+all_lawful 𝓛 (R ∷ Rs) ps = (ps.0.lawful 𝓛, all_lawful 𝓛 Rs ps.1)
 
 in_a_row : (Rs : List RattleType) (ps : AllPass Rs) (a : Denots Rs)
     → flat Rs (valss Rs (spelled Rs ps) a) ≡ values (all_go Rs ps a)
@@ -145,33 +145,33 @@ others true [] = []
 others true (x ∷ xs) = xs
 
 module _ (R : RattleType) (Rs : List RattleType) where
-  abbrev args-given : (taken : Bool) → R.Denot → Denots Rs → Denots (if-taken taken R Rs)
-  args-given true h a = (h, a)
-  args-given false h a = a
+  abbrev args_given : (taken : Bool) → R.Denot → Denots Rs → Denots (if_taken taken R Rs)
+  args_given true h a = (h, a)
+  args_given false h a = a
 
-  abbrev vals-given : (taken : Bool) → List Val → Valss Rs → Valss (if-taken taken R Rs)
-  vals-given true us vss = (us, vss)
-  vals-given false us vss = vss
+  abbrev vals_given : (taken : Bool) → List Val → Valss Rs → Valss (if_taken taken R Rs)
+  vals_given true us vss = (us, vss)
+  vals_given false us vss = vss
 
-  flat-given : (taken : Bool) (u : Val) (vss : Valss Rs)
-      → flat (if-taken taken R Rs) (vals-given taken (u ∷ []) vss) ≡ if-taken taken u (flat Rs vss)
-  flat-given true u vss = refl
-  flat-given false u vss = refl
+  flat_given : (taken : Bool) (u : Val) (vss : Valss Rs)
+      → flat (if_taken taken R Rs) (vals_given taken (u ∷ []) vss) ≡ if_taken taken u (flat Rs vss)
+  flat_given true u vss = refl
+  flat_given false u vss = refl
 
   module _ (h : R.Denot) (a : Denots Rs) where
-    abbrev lasts-left : (taken : Bool) → Lasts (if-taken taken R Rs) (args-given taken h a) → Lasts Rs a
-    lasts-left true ws = ws.1
-    lasts-left false ws = ws
+    abbrev lasts_left : (taken : Bool) → Lasts (if_taken taken R Rs) (args_given taken h a) → Lasts Rs a
+    lasts_left true ws = ws.1
+    lasts_left false ws = ws
 
     module _ {M : Type 1} {𝓤 : Ura M} (𝓛 : Logic 𝓤) where
-      leaves : (taken : Bool) (ws : Lasts (if-taken taken R Rs) (args-given taken h a))
-          → ent 𝓤 (sem 𝓛 (lasts (if-taken taken R Rs) (args-given taken h a) ws)) (sem 𝓛 (lasts Rs a (lasts-left taken ws)))
+      leaves : (taken : Bool) (ws : Lasts (if_taken taken R Rs) (args_given taken h a))
+          → ent 𝓤 (sem 𝓛 (lasts (if_taken taken R Rs) (args_given taken h a) ws)) (sem 𝓛 (lasts Rs a (lasts_left taken ws)))
       leaves true ws = snd∗ 𝓤 (sem 𝓛 (left (R.exit yes) h ws.0)) (sem 𝓛 (lasts Rs a ws.1))
       leaves false ws = id⊢ 𝓤 (sem 𝓛 (lasts Rs a ws))
 
       gives : (taken : Bool) (us : List Val) (vss : Valss Rs) (live : SProp 𝓤)
           → ent 𝓤 (sep 𝓤 (sem 𝓛 (R.own_val h us)) (sep 𝓤 live (sem 𝓛 (owns Rs a vss))))
-          (sep 𝓤 (sep 𝓤 live (sem 𝓛 (owns (if-taken taken R Rs) (args-given taken h a) (vals-given taken us vss)))) (emp 𝓤))
+          (sep 𝓤 (sep 𝓤 live (sem 𝓛 (owns (if_taken taken R Rs) (args_given taken h a) (vals_given taken us vss)))) (emp 𝓤))
       gives true us vss live = qed 𝓛 (‵ (R.own_val h us) ∷ raw live ∷ ‵ (owns Rs a vss) ∷ []) ∵ nothing ! $ move ! (1 ∷ 3 ∷ []) $
           fjoin ! $ move ! (2 ∷ 0 ∷ []) $ join ! $ frame ! $ done !
       gives false us vss live = qed 𝓛 (‵ (R.own_val h us) ∷ raw live ∷ ‵ (owns Rs a vss) ∷ []) ∵ drop ! $ join ! $ frame ! $
@@ -197,7 +197,7 @@ module _ {M : Type 1} {𝓤 : Ura M} (𝓛 : Logic 𝓤) (𝓜 : Model 𝓤 𝓛
   lends κs = MutRef (named 0) κs.0 S ∷ shared κs.1
 
   abbrev takes : Lfts n → List RattleType
-  takes κs = if-taken taken S (shared κs)
+  takes κs = if_taken taken S (shared κs)
 
   module _ (f-says : Says 𝓛 (suc n) lends u32) (g-says : Says 𝓛 n takes (row Answer)) (env : Routine.Env) (fn : Fn)
       (#g : Name) where
@@ -221,20 +221,20 @@ module _ {M : Type 1} {𝓤 : Ura M} (𝓛 : Logic 𝓤) (𝓜 : Model 𝓤 𝓛
       Gs = takes κs.1
 
       abbrev given : Denots Gs
-      given = args-given S Rs taken x.now a
+      given = args_given S Rs taken x.now a
 
       abbrev rest_of : Lasts Gs given → Lasts Rs a
-      rest_of = lasts-left S Rs x.now a taken
+      rest_of = lasts_left S Rs x.now a taken
 
-      abbrev said-by-g : Answer.D → Lasts Gs given → SProp 𝓤
-      said-by-g r ws = g-says κs.1 given r (at_exit Gs given ws)
+      abbrev said_by_g : Answer.D → Lasts Gs given → SProp 𝓤
+      said_by_g r ws = g-says κs.1 given r (at_exit Gs given ws)
 
-      abbrev said-by-f : ℕ → Lasts (lends κs) (x, a) → SProp 𝓤
-      said-by-f m ws = f-says κs (x, a) m (at_exit (lends κs) (x, a) ws)
+      abbrev said_by_f : ℕ → Lasts (lends κs) (x, a) → SProp 𝓤
+      said_by_f m ws = f-says κs (x, a) m (at_exit (lends κs) (x, a) ws)
 
       -- f says what g says, of the number and the struct of g's answer
       abbrev Alike : Type 1
-      Alike = (r : Answer.D) (ws : Lasts Gs given) → ent 𝓤 (said-by-g r ws) (said-by-f (number r) (stored r, rest_of ws))
+      Alike = (r : Answer.D) (ws : Lasts Gs given) → ent 𝓤 (said_by_g r ws) (said_by_f (number r) (stored r, rest_of ws))
 
       module _ (alike : Alike) (ps : AllPass Rs) (code : Lends taken Z fn #g (all_go Rs ps a)) (known : Triple 𝓤 (C #g) g)
           (qs : Shares (suc n)) where
@@ -247,27 +247,27 @@ module _ {M : Type 1} {𝓤 : Ura M} (𝓛 : Logic 𝓤) (𝓜 : Model 𝓤 𝓛
         abbrev live : SProp 𝓤
         live = toks 𝓛 n κs.1 qs.1
 
-        abbrev to-f : f.Ghost
-        to-f = ((κs, qs, tt, (x, a), (shr_vals x, vss)), tt)
+        abbrev to_f : f.Ghost
+        to_f = ((κs, qs, tt, (x, a), (shr_vals x, vss)), tt)
 
-        abbrev to-g : g.Ghost
-        to-g = ((κs.1, qs.1, tt, given, vals-given S Rs taken (u ∷ []) vss), tt)
+        abbrev to_g : g.Ghost
+        to_g = ((κs.1, qs.1, tt, given, vals_given S Rs taken (u ∷ []) vss), tt)
 
         abbrev asked : SProp 𝓤
         asked = sep 𝓤 live (sem 𝓛 (owns Rs a vss))
 
         abbrev told : Answer.D → SProp 𝓤
-        told r = ex 𝓤 (λ (ws : Lasts Gs given). sep 𝓤 (sem 𝓛 (lasts Gs given ws)) (said-by-g r ws))
+        told r = ex 𝓤 (λ (ws : Lasts Gs given). sep 𝓤 (sem 𝓛 (lasts Gs given ws)) (said_by_g r ws))
 
         abbrev tells : ℕ → Lasts (lends κs) (x, a) → SProp 𝓤
-        tells m ws = sep 𝓤 (sem 𝓛 (lasts (lends κs) (x, a) ws)) (said-by-f m ws)
+        tells m ws = sep 𝓤 (sem 𝓛 (lasts (lends κs) (x, a) ws)) (said_by_f m ws)
 
         calls : ent 𝓤 (sep 𝓤 (sem 𝓛 (S.own_val x.now (u ∷ []))) asked)
-            (C #g (if-taken taken u (values (all_go Rs ps a))) (g.post to-g))
-        calls = rw (← in_a_row Rs ps a, ← flat-given S Rs taken u vss)
-            (via 𝓤 (g.pre to-g) (gives S Rs x.now a 𝓛 taken (u ∷ []) vss live) (known to-g))
+            (C #g (if_taken taken u (values (all_go Rs ps a))) (g.post to_g))
+        calls = rw (← in_a_row Rs ps a, ← flat_given S Rs taken u vss)
+            (via 𝓤 (g.pre to_g) (gives S Rs x.now a 𝓛 taken (u ∷ []) vss live) (known to_g))
 
-        answers : (v : Val) → ent 𝓤 (g.post to-g v)
+        answers : (v : Val) → ent 𝓤 (g.post to_g v)
             (H.⇛ (ex 𝓤 (λ (r : Answer.D). sep 𝓤 (sem 𝓛 ((row Answer).own_val r (v ∷ []))) (sep 𝓤 live (told r)))))
         answers v = qed 𝓛 (later (some (λ (r : Answer.D). (raw live ⊛ ‵ ((row Answer).own_val r (v ∷ []))) ⊛ raw (told r))) ∷ []) ∵
             updating ! $ await ! tt $ pick ! (λ r. at_once ! $
@@ -275,9 +275,9 @@ module _ {M : Type 1} {𝓤 : Ura M} (𝓛 : Logic 𝓤) (𝓜 : Model 𝓤 𝓛
             split ! $ split ! $ move ! (1 ∷ []) $ frame ! $ done !)
 
         ends : (r : Answer.D) → number r < 2 ^ 32
-            → ent 𝓤 (⋆ 𝓛 (loan S κs.0 qs.0 x (stored r) (raw (sep 𝓤 live (told r))))) (f.post to-f (vint w32 (number r)))
+            → ent 𝓤 (⋆ 𝓛 (loan S κs.0 qs.0 x (stored r) (raw (sep 𝓤 live (told r))))) (f.post to_f (vint w32 (number r)))
         ends r fits = qed 𝓛 (loan S κs.0 qs.0 x (stored r)
-            (raw live ⊛ some (λ (ws : Lasts Gs given). ‵ (lasts Gs given ws) ⊛ raw (said-by-g r ws)))) ∵ updating ! $ at_once ! $
+            (raw live ⊛ some (λ (ws : Lasts Gs given). ‵ (lasts Gs given ws) ⊛ raw (said_by_g r ws)))) ∵ updating ! $ at_once ! $
             show ! (λ (m : ℕ). sep 𝓤 (sep 𝓤 (toks 𝓛 (suc n) κs qs) (sem 𝓛 (u32.own_val m (vint w32 (number r) ∷ []))))
             (ex 𝓤 (tells m))) (number r) $
             use1 𝓛 (‵ (fres x.name (S.coded.code (stored r)))) (𝓛.names.obs-res x.name (S.coded.code (stored r))) $
@@ -287,28 +287,28 @@ module _ {M : Type 1} {𝓤 : Ura M} (𝓛 : Logic 𝓤) (𝓜 : Model 𝓤 𝓛
             (refl, fits) $ move ! (1 ∷ 0 ∷ []) $ join ! $ frame ! $
             pick ! (λ ws. show ! (tells (number r)) (stored r, rest_of ws) $ split ! $
             use1 𝓛 (‵ (lasts Rs a (rest_of ws))) (leaves S Rs x.now a 𝓛 taken ws) $ move ! (1 ∷ []) $
-            use1 𝓛 (raw (said-by-f (number r) (stored r, rest_of ws))) (alike r ws) $ move ! (2 ∷ 1 ∷ []) $ fjoin ! $ done !)
+            use1 𝓛 (raw (said_by_f (number r) (stored r, rest_of ws))) (alike r ws) $ move ! (2 ∷ 1 ∷ []) $ fjoin ! $ done !)
 
-        met-here : ent 𝓤 (f.pre to-f) (WpFn 𝓤 H C Λ fn (shr_vals x ++ flat Rs vss) (f.post to-f))
+        met_here : ent 𝓤 (f.pre to_f) (WpFn 𝓤 H C Λ fn (shr_vals x ++ flat Rs vss) (f.post to_f))
         unfolding tables_of
-        met-here = qed 𝓛 (((‵ (flft κs.0 qs.0) ⊛ raw live) ⊛ ‵ (owns (lends κs) (x, a) (shr_vals x, vss))) ∷ ‵ ftrue ∷ []) ∵
+        met_here = qed 𝓛 (((‵ (flft κs.0 qs.0) ⊛ raw live) ⊛ ‵ (owns (lends κs) (x, a) (shr_vals x, vss))) ∷ ‵ ftrue ∷ []) ∵
             split ! $ move ! (1 ∷ []) $ fsplit ! $ fsplit3 ! $ drop ! $ move ! (3 ∷ []) $ split ! $
             -- [lft; live; obs; bor; owns; nothing]
             move ! (1 ∷ 4 ∷ []) $ join ! $ keep ! (2 ∷ 3 ∷ 1 ∷ 0 ∷ []) $
             by ! (rw (in_a_row Rs ps a) (walks 𝓛 C Λ (fm_of 𝓤 H 𝓛.laws (tables_of 𝓤 H 𝓜 (tables 𝓤 H 𝓜 𝓡 env))) taken Z fn #g
-            (all_go Rs ps a) code κs.0 qs.0 x asked (λ r. sep 𝓤 live (told r)) (g.post to-g) (f.post to-f) calls answers
+            (all_go Rs ps a) code κs.0 qs.0 x asked (λ r. sep 𝓤 live (told r)) (g.post to_g) (f.post to_f) calls answers
             ends))
 
     -- f says what g says; the other parameters are passed on so; f has the code, with locals that fit; f is `#f` there; and g is
     -- proved
-    pub lent-proved : ((κs : Lfts (suc n)) (x : Bor Struct.D) (a : Denots (shared κs.1)) → Alike κs x a)
+    pub lent_proved : ((κs : Lfts (suc n)) (x : Bor Struct.D) (a : Denots (shared κs.1)) → Alike κs x a)
         → (pass : (κs : Lfts n) → AllPass (shared κs))
         → ((κs : Lfts n) (a : Denots (shared κs))
         → Typed (mirs (shared κs)) (flat (shared κs) (valss (shared κs) (spelled (shared κs) (pass κs)) a))
         → Lends taken Z fn #g (all_go (shared κs) (pass κs) a))
         → (#f : Name) → Closed 𝓤 H C Λ #f fn → (routine : Routine.Routine) → env #g ≡ routine → Triple 𝓤 (𝓡.run routine) g
         → Triple 𝓤 (C #f) f
-    lent-proved alike pass code #f closed routine is-g met = entered 𝓤 H f C Λ #f fn closed (λ z.
+    lent_proved alike pass code #f closed routine is-g met = entered 𝓤 H f C Λ #f fn closed (λ z.
         let κs : Lfts (suc n) = z.0.0 in
         let Fs : List RattleType = lends κs in
         let ps : AllPass (shared κs.1) = pass κs.1 in
@@ -324,6 +324,6 @@ module _ {M : Type 1} {𝓤 : Ura M} (𝓛 : Logic 𝓤) (𝓜 : Model 𝓤 𝓛
         all_tell Fs (Ises Fs) (spelled Fs all-ps) (all_told Fs all-ps) a z.0.4 are in
         subst (λ (us : Valss Fs). Are Fs (Ises Fs) a us → ent 𝓤 (sep 𝓤 (sep 𝓤 live (has us)) (emp 𝓤))
         (WpFn 𝓤 H C Λ fn (flat Fs us) (f.post z))) (sym so)
-        (λ are. met-here κs a.0 a.1 (alike κs a.0 a.1) ps
-        (code κs.1 a.1 (all_Typed 𝓛 (shared κs.1) (all-lawful 𝓛 (shared κs.1) ps) a.1 _ are.1))
+        (λ are. met_here κs a.0 a.1 (alike κs a.0 a.1) ps
+        (code κs.1 a.1 (all_Typed 𝓛 (shared κs.1) (all_lawful 𝓛 (shared κs.1) ps) a.1 _ are.1))
         (cited 𝓤 H g 𝓜 𝓡 env #g routine is-g met) z.0.1) are))

@@ -43,9 +43,9 @@ abbrev pub holds : List Val → List (Option Val)
 holds [] = []
 holds (v ∷ vs) = some v ∷ holds vs
 
-pub held-there : (ms : List (Option Val)) (i : ℕ) (v : Val) → held (hold ms i v) i ≡ some v
-held-there ms zero v = refl
-held-there ms (suc i) v = held-there (tail ms) i v
+pub held_there : (ms : List (Option Val)) (i : ℕ) (v : Val) → held (hold ms i v) i ≡ some v
+held_there ms zero v = refl
+held_there ms (suc i) v = held_there (tail ms) i v
 
 -- ---- the locals' types, each with its block
 abbrev pub Locals : Type 0
@@ -108,20 +108,20 @@ module _ {M : Type 1} {𝓤 : Ura M} where
   shift (x ∷ Φ) n = suc (shift Φ n)
 
 module _ {M : Type 1} {𝓤 : Ura M} (𝓛 : Logic 𝓤) where
-  nth-slot : (Φ : List (Item 𝓤)) (E : Locals) (ms : List (Option Val)) (i : ℕ) → T (there E i)
+  nth_slot : (Φ : List (Item 𝓤)) (E : Locals) (ms : List (Option Val)) (i : ℕ) → T (there E i)
       → nth 𝓛 (shift Φ (pos i)) (Φ ++ slots E ms) ≡ cell (at E i) (held ms i)
-  nth-slot (x ∷ Φ) E ms i h = nth-slot Φ E ms i h
-  nth-slot [] [] ms i h = absurd h
-  nth-slot [] (e ∷ E) ms zero h = refl
-  nth-slot [] (e ∷ E) ms (suc i) h = nth-slot [] E (tail ms) i h
+  nth_slot (x ∷ Φ) E ms i h = nth_slot Φ E ms i h
+  nth_slot [] [] ms i h = absurd h
+  nth_slot [] (e ∷ E) ms zero h = refl
+  nth_slot [] (e ∷ E) ms (suc i) h = nth_slot [] E (tail ms) i h
 
-  put-slot : (Φ : List (Item 𝓤)) (E : Locals) (ms : List (Option Val)) (i : ℕ) (v : Val) → T (there E i)
+  put_slot : (Φ : List (Item 𝓤)) (E : Locals) (ms : List (Option Val)) (i : ℕ) (v : Val) → T (there E i)
       → put 𝓛 (shift Φ (pos i)) (cell (at E i) (some v)) (Φ ++ slots E ms) ≡ Φ ++ slots E (hold ms i v)
-  put-slot (x ∷ Φ) E ms i v h = ap (λ (l : List (Item 𝓤)). x ∷ l) (put-slot Φ E ms i v h)
-  put-slot [] [] ms i v h = absurd h
-  put-slot [] (e ∷ E) ms zero v h = refl
-  put-slot [] (e ∷ E) ms (suc i) v h =
-      ap (λ (l : List (Item 𝓤)). cell e (first ms) ∷ ‵ (fdies e.0 e.1) ∷ l) (put-slot [] E (tail ms) i v h)
+  put_slot (x ∷ Φ) E ms i v h = ap (λ (l : List (Item 𝓤)). x ∷ l) (put_slot Φ E ms i v h)
+  put_slot [] [] ms i v h = absurd h
+  put_slot [] (e ∷ E) ms zero v h = refl
+  put_slot [] (e ∷ E) ms (suc i) v h =
+      ap (λ (l : List (Item 𝓤)). cell e (first ms) ∷ ‵ (fdies e.0 e.1) ∷ l) (put_slot [] E (tail ms) i v h)
 
   -- two parts of a context, the other way round
   turned : (Δ Γ : List (Item 𝓤)) → ent 𝓤 (⋆ 𝓛 (Δ ++ Γ)) (⋆ 𝓛 (Γ ++ Δ))
@@ -133,72 +133,72 @@ module _ {M : Type 1} {𝓤 : Ura M} {𝓛 : Logic 𝓤} {K : Type 0} (t : K) (�
     (ms : List (Option Val)) where
   -- it is read, or a field of what it holds is,
   pub sees : (i : ℕ) {v : Val} → T (there E i) → held ms i ≡ some v → Reads K 𝓛 (Φ ++ slots E ms) (at E i).0 (at E i).1 zero v
-  sees i h e = look t (shift Φ (pos i)) (nth-slot 𝓛 Φ E ms i h ∙ ap (cell (at E i)) e)
+  sees i h e = look t (shift Φ (pos i)) (nth_slot 𝓛 Φ E ms i h ∙ ap (cell (at E i)) e)
 
-  pub sees-in : (i : ℕ) {ν : Sym} {τs : Tys} {vs : Vals} → T (there E i) → (at E i).0 ≡ ty_struct ν τs → held ms i ≡ some (vstruct vs)
+  pub sees_in : (i : ℕ) {ν : Sym} {τs : Tys} {vs : Vals} → T (there E i) → (at E i).0 ≡ ty_struct ν τs → held ms i ≡ some (vstruct vs)
       → (k : ℕ) {τ : Ty} {d : ℕ} → field_at zero τs k ≡ some (τ, d)
       → Reads K 𝓛 (Φ ++ slots E ms) τ (at E i).1 (zero + d) (get_v vs k)
-  sees-in i {ν} {τs} {vs} h is-τ e k {τ} {d} at-k = look_in t (shift Φ (pos i))
+  sees_in i {ν} {τs} {vs} h is-τ e k {τ} {d} at-k = look_in t (shift Φ (pos i))
       (subst (λ (j : Item 𝓤). Part K 𝓛 j full_share τ (at E i).1 (zero + d) (get_v vs k)
       (λ u. ‵ (fat full_share (ty_struct ν τs) (at E i).1 zero (vstruct (set_v vs k u)))))
-      (sym (nth-slot 𝓛 Φ E ms i h ∙ ap (cell (at E i)) e
+      (sym (nth_slot 𝓛 Φ E ms i h ∙ ap (cell (at E i)) e
       ∙ ap (λ (σ : Ty). ‵ (fat full_share σ (at E i).1 zero (vstruct vs))) is-τ)) (sub t k at-k (whole t)))
 
   -- it is written for the first time,
   pub sets : (i : ℕ) {v : Val} → T (there E i) → held ms i ≡ none → T (has_ty (at E i).0 v) × WT v
       → Writes K 𝓛 (Φ ++ slots E ms) (at E i).0 (at E i).1 zero v (Φ ++ slots E (hold ms i v))
   sets i {v} h e wt =
-      subst (λ (Γ : List (Item 𝓤)). Writes K 𝓛 (Φ ++ slots E ms) (at E i).0 (at E i).1 zero v Γ) (put-slot 𝓛 Φ E ms i v h)
-      (init t (shift Φ (pos i)) (nth-slot 𝓛 Φ E ms i h ∙ ap (cell (at E i)) e) wt)
+      subst (λ (Γ : List (Item 𝓤)). Writes K 𝓛 (Φ ++ slots E ms) (at E i).0 (at E i).1 zero v Γ) (put_slot 𝓛 Φ E ms i v h)
+      (init t (shift Φ (pos i)) (nth_slot 𝓛 Φ E ms i h ∙ ap (cell (at E i)) e) wt)
 
   -- and several are read, as a call's arguments are
-  pub sees-all : (is : List ℕ) (vs : List Val) → T (all_there E is) → all_held ms is ≡ holds vs
+  pub sees_all : (is : List ℕ) (vs : List Val) → T (all_there E is) → all_held ms is ≡ holds vs
       → Opds K 𝓛 (Φ ++ slots E ms) E (copies is) vs
-  sees-all [] [] h e = no_more t
-  sees-all [] (v ∷ vs) h e = let z : ◌≡◌ {A = ℕ} 0 1 = cc in let no : ⊥ = omega arith in absurd no
-  sees-all (i ∷ is) [] h e = let z : ◌≡◌ {A = ℕ} 0 1 = cc in let no : ⊥ = omega arith in absurd no
-  sees-all (i ∷ is) (v ∷ vs) h e =
+  sees_all [] [] h e = no_more t
+  sees_all [] (v ∷ vs) h e = let z : ◌≡◌ {A = ℕ} 0 1 = cc in let no : ⊥ = omega arith in absurd no
+  sees_all (i ∷ is) [] h e = let z : ◌≡◌ {A = ℕ} 0 1 = cc in let no : ⊥ = omega arith in absurd no
+  sees_all (i ∷ is) (v ∷ vs) h e =
       and_then t (load t (from t (stop t)) (sees i (and_T (there E i) (all_there E is) h).0 (ap first e)))
-      (sees-all is vs (and_T (there E i) (all_there E is) h).1 (ap tail e))
+      (sees_all is vs (and_T (there E i) (all_there E is) h).1 (ap tail e))
 
 -- ---- all of them
 module _ {M : Type 1} {𝓤 : Ura M} {𝓛 : Logic 𝓤} {K : Type 0} where
   open 𝓛 use {H}
 
-  pub all-allocated : K → {Γ : List (Item 𝓤)} (ls : List Local) {Kt : Locals → Goal 𝓤 H}
+  pub all_allocated : K → {Γ : List (Item 𝓤)} (ls : List Local) {Kt : Locals → Goal 𝓤 H}
       → ((bs : Blocks ls) → Seq K 𝓛 (slots (placed ls bs) [] ++ Γ) (Kt (placed ls bs))) → Seq K 𝓛 Γ (allocs ls Kt)
-  all-allocated t [] k = alloc0 t $ k tt
-  all-allocated t {Γ} (local τ h ∷ ls) {Kt} k = alloc1 t (λ b. all-allocated t ls (λ bs.
+  all_allocated t [] k = alloc0 t $ k tt
+  all_allocated t {Γ} (local τ h ∷ ls) {Kt} k = alloc1 t (λ b. all_allocated t ls (λ bs.
       let Δ : List (Item 𝓤) = slots (placed ls bs) [] in
       let Θ : List (Item 𝓤) = ‵ (froom τ b zero) ∷ ‵ (fdies τ b) ∷ [] in
       by t (rw append_assoc at (cut⊢ 𝓛 (Δ ++ Θ) (Θ ++ Δ) Γ (aim 𝓤 H (Kt ((τ, b) ∷ placed ls bs))) (turned 𝓛 Δ Θ)
       (k (b, bs)).prf))))
 
-  all-passed : K → (Φ : List (Item 𝓤)) (E : Locals) (vs : List Val) {g : Goal 𝓤 H} → Fit E vs → Seq K 𝓛 (Φ ++ slots E (holds vs)) g
+  all_passed : K → (Φ : List (Item 𝓤)) (E : Locals) (vs : List Val) {g : Goal 𝓤 H} → Fit E vs → Seq K 𝓛 (Φ ++ slots E (holds vs)) g
       → Seq K 𝓛 (Φ ++ slots E []) (passes E vs g)
-  all-passed t Φ E [] h s = pass0 t $ s
-  all-passed t Φ [] (v ∷ vs) h s = absurd h
-  all-passed t Φ (e ∷ E) (v ∷ vs) {g} h s =
+  all_passed t Φ E [] h s = pass0 t $ s
+  all_passed t Φ [] (v ∷ vs) h s = absurd h
+  all_passed t Φ (e ∷ E) (v ∷ vs) {g} h s =
       let Δ : List (Item 𝓤) = cell e (some v) ∷ ‵ (fdies e.0 e.1) ∷ [] in
       pass1 t (sets t Φ (e ∷ E) [] 0 tt refl h.0) $
-      rw append_assoc at (all-passed t (Φ ++ Δ) E vs {g = g} h.1 (rw append_assoc s))
+      rw append_assoc at (all_passed t (Φ ++ Δ) E vs {g = g} h.1 (rw append_assoc s))
 
-  pub all-stored : K → (E : Locals) (vs : List Val) (Φ : List (Item 𝓤)) {g : Goal 𝓤 H} → FitParams E vs
+  pub all_stored : K → (E : Locals) (vs : List Val) (Φ : List (Item 𝓤)) {g : Goal 𝓤 H} → FitParams E vs
       → Seq K 𝓛 (Φ ++ slots E (none ∷ holds vs)) g → Seq K 𝓛 (slots E [] ++ Φ) (params' E vs g)
-  all-stored t [] vs Φ h s = absurd h
-  all-stored t (e ∷ E) vs Φ {g} h s =
+  all_stored t [] vs Φ h s = absurd h
+  all_stored t (e ∷ E) vs Φ {g} h s =
       let Δ : List (Item 𝓤) = cell e none ∷ ‵ (fdies e.0 e.1) ∷ [] in
       by t (via 𝓤 (⋆ 𝓛 (Φ ++ slots (e ∷ E) [])) (turned 𝓛 (slots (e ∷ E) []) Φ) (params1 t {e = e} $
-      rw append_assoc at (all-passed t (Φ ++ Δ) E vs {g = g} h (rw append_assoc s))).prf)
+      rw append_assoc at (all_passed t (Φ ++ Δ) E vs {g = g} h (rw append_assoc s))).prf)
 
-  freed-here : K → {Γ : List (Item 𝓤)} (E : Locals) (ms : List (Option Val)) {g : Goal 𝓤 H} → Seq K 𝓛 Γ g
+  freed_here : K → {Γ : List (Item 𝓤)} (E : Locals) (ms : List (Option Val)) {g : Goal 𝓤 H} → Seq K 𝓛 Γ g
       → Seq K 𝓛 (slots E ms ++ Γ) (frees E g)
-  freed-here t [] ms s = free0 t $ s
-  freed-here t (e ∷ E) [] s = free1 t $ freed-here t E [] s
-  freed-here t (e ∷ E) (none ∷ ms) s = free1 t $ freed-here t E ms s
-  freed-here t (e ∷ E) (some v ∷ ms) s = forget t 0 refl $ free1 t $ freed-here t E ms s
+  freed_here t [] ms s = free0 t $ s
+  freed_here t (e ∷ E) [] s = free1 t $ freed_here t E [] s
+  freed_here t (e ∷ E) (none ∷ ms) s = free1 t $ freed_here t E ms s
+  freed_here t (e ∷ E) (some v ∷ ms) s = forget t 0 refl $ free1 t $ freed_here t E ms s
 
-  pub all-freed : K → (Φ : List (Item 𝓤)) (E : Locals) (ms : List (Option Val)) {g : Goal 𝓤 H} → Seq K 𝓛 Φ g
+  pub all_freed : K → (Φ : List (Item 𝓤)) (E : Locals) (ms : List (Option Val)) {g : Goal 𝓤 H} → Seq K 𝓛 Φ g
       → Seq K 𝓛 (Φ ++ slots E ms) (frees E g)
-  all-freed t Φ E ms s =
-      by t (via 𝓤 (⋆ 𝓛 (slots E ms ++ Φ)) (turned 𝓛 Φ (slots E ms)) (freed-here t E ms s).prf)
+  all_freed t Φ E ms s =
+      by t (via 𝓤 (⋆ 𝓛 (slots E ms ++ Φ)) (turned 𝓛 Φ (slots E ms)) (freed_here t E ms s).prf)

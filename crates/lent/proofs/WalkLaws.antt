@@ -33,8 +33,8 @@ use denote.Struct.Struct.{Plains, layout}
 use denote.Struct.Declared.{Declared, fields, shape, row}
 use denote.Struct.Laws as LL
 use denote.Triple.Call.{calls_from}
-use Rattle.lent.proofs.LocalsLaws.{Locals, at, there, all_there, and_T, FitParams, Blocks, placed, copies, held, all_held, hold, holds, held-there, slots, sees, sees-in, sets, sees-all, all-allocated, all-stored, all-freed}
-use Rattle.lent.proofs.AgainLaws.{Goes, values, again-code, again-at, again-holds, AgainFits, lent_again}
+use Rattle.lent.proofs.LocalsLaws.{Locals, at, there, all_there, and_T, FitParams, Blocks, placed, copies, held, all_held, hold, holds, held_there, slots, sees, sees_in, sets, sees_all, all_allocated, all_stored, all_freed}
+use Rattle.lent.proofs.AgainLaws.{Goes, values, again_code, again_at, again_holds, AgainFits, lent_again}
 
 -- a struct that is lent, and the struct that a callee answers with: a number, and the struct that is to be stored
 pub record Lent : Type 2 where
@@ -42,28 +42,28 @@ pub record Lent : Type 2 where
   pub struct_laws : LL.Laws Struct
   pub struct_plain : Plains (fields Struct)
   pub Answer : Declared
-  pub answer-laws : LL.Laws Answer
+  pub answer_laws : LL.Laws Answer
   pub number : Answer.D → ℕ
   pub stored : Answer.D → Struct.D
-  pub answer-type : layout (shape Answer) ≡ ty_struct Answer.name (tcons (ty_int w32) (tcons (layout (shape Struct)) tnil))
-  pub answer-value : (r : Answer.D) → LL.val Answer answer-laws r
+  pub answer_type : layout (shape Answer) ≡ ty_struct Answer.name (tcons (ty_int w32) (tcons (layout (shape Struct)) tnil))
+  pub answer_value : (r : Answer.D) → LL.val Answer answer_laws r
       ≡ vstruct (vcons (vint w32 (number r)) (vcons (LL.val Struct struct_laws (stored r)) vnil))
   pub owed : (r : Answer.D) (vs : List Val) → Is (row Answer) r vs
       → (number r < 2 ^ 32) × Is (row Struct) (stored r) (LL.vals Struct struct_laws (stored r))
 
 -- a callee takes the struct before the other parameters, or does not take it
-abbrev pub if-taken {ℓ} : {X : Type ℓ} → Bool → X → List X → List X
-if-taken true x xs = x ∷ xs
-if-taken false x xs = xs
+abbrev pub if_taken {ℓ} : {X : Type ℓ} → Bool → X → List X → List X
+if_taken true x xs = x ∷ xs
+if_taken false x xs = xs
 
 -- where it does, the struct is copied into the local c first
-abbrev free-after : Bool → ℕ → ℕ
-free-after true c = suc c
-free-after false c = c
+abbrev free_after : Bool → ℕ → ℕ
+free_after true c = suc c
+free_after false c = c
 
-abbrev copy-code : Bool → ℕ → Ty → Body → Body
-copy-code true c τ rest = seq (assign (place c []) (rv_opd (copy (place 1 (deref τ ∷ []))))) rest
-copy-code false c τ rest = rest
+abbrev copy_code : Bool → ℕ → Ty → Body → Body
+copy_code true c τ rest = seq (assign (place c []) (rv_opd (copy (place 1 (deref τ ∷ []))))) rest
+copy_code false c τ rest = rest
 
 abbrev copy_holds : Bool → ℕ → Val → List (Option Val) → List (Option Val)
 copy_holds true c u ms = hold ms c u
@@ -78,16 +78,16 @@ module _ (taken : Bool) (gs : List Goes) where
   abbrev copy_at : ℕ
   copy_at = suc answer_at
 
-  abbrev free-at : ℕ
-  free-at = free-after taken copy_at
+  abbrev free_at : ℕ
+  free_at = free_after taken copy_at
 
-  abbrev arguments-at : List ℕ
-  arguments-at = if-taken taken copy_at (again-at gs 2 free-at)
+  abbrev arguments_at : List ℕ
+  arguments_at = if_taken taken copy_at (again_at gs 2 free_at)
 
   -- of the callee's answer the struct is stored where it was lent, and the number is returned
-  abbrev lent-code : Ty → Name → Body
-  lent-code τ callee = copy-code taken copy_at τ (again-code gs 2 free-at
-      (seq (call callee (copies arguments-at) (place answer_at []))
+  abbrev lent_code : Ty → Name → Body
+  lent_code τ callee = copy_code taken copy_at τ (again_code gs 2 free_at
+      (seq (call callee (copies arguments_at) (place answer_at []))
       (seq (assign (place 1 (deref τ ∷ [])) (rv_opd (copy (place answer_at (field 1 ∷ [])))))
       (seq (assign (place 0 []) (rv_opd (copy (place answer_at (field 0 ∷ []))))) return))))
 
@@ -95,29 +95,29 @@ module _ (taken : Bool) (gs : List Goes) where
   abbrev at_first : Val → List (Option Val)
   at_first p = none ∷ some p ∷ holds (values gs)
 
-  abbrev when-copied : Val → Val → List (Option Val)
-  when-copied p u = copy_holds taken copy_at u (at_first p)
+  abbrev when_copied : Val → Val → List (Option Val)
+  when_copied p u = copy_holds taken copy_at u (at_first p)
 
   -- what the code asks of the locals: the parameters fit; those that it names are there, and of their types; what is lent again
   -- fits; and at the call the result and the answer hold nothing, and the others what the callee is called on
   abbrev LocalsFit : Lent → Locals → Val → Val → Type 0
   LocalsFit Z E p u = FitParams E (p ∷ values gs)
-      × T (all_there E (0 ∷ 1 ∷ answer_at ∷ arguments-at))
-      × ((at E 0).0 ∷ (at E answer_at).0 ∷ if-taken taken (at E copy_at).0 []
-      ≡ ty_int w32 ∷ layout (shape Z.Answer) ∷ if-taken taken (layout (shape Z.Struct)) [])
-      × AgainFits E (when-copied p u) gs 2 free-at
-      × (all_held (again-holds gs free-at (when-copied p u)) (0 ∷ 1 ∷ answer_at ∷ arguments-at)
-      ≡ none ∷ some p ∷ none ∷ holds (if-taken taken u (values gs)))
+      × T (all_there E (0 ∷ 1 ∷ answer_at ∷ arguments_at))
+      × ((at E 0).0 ∷ (at E answer_at).0 ∷ if_taken taken (at E copy_at).0 []
+      ≡ ty_int w32 ∷ layout (shape Z.Answer) ∷ if_taken taken (layout (shape Z.Struct)) [])
+      × AgainFits E (when_copied p u) gs 2 free_at
+      × (all_held (again_holds gs free_at (when_copied p u)) (0 ∷ 1 ∷ answer_at ∷ arguments_at)
+      ≡ none ∷ some p ∷ none ∷ holds (if_taken taken u (values gs)))
 
 -- that a function has this code, and that its locals fit
 pub record Lends (taken : Bool) (Z : Lent) (fn : Fn) (callee : Name) (gs : List Goes) : Type 0 where
-  pub body_is : fn.body ≡ lent-code taken gs (layout (shape Z.Struct)) callee
+  pub body_is : fn.body ≡ lent_code taken gs (layout (shape Z.Struct)) callee
   pub fits : (bs : Blocks fn.locals) (b o : ℕ) (u : Val) → LocalsFit taken gs Z (placed fn.locals bs) (vptr b o) u
 
 -- the copy's local holds nothing before
-copy-free : (gs : List Goes) → held (holds (values gs)) (suc (length gs)) ≡ none
-copy-free [] = refl
-copy-free (g ∷ gs) = copy-free gs
+copy_free : (gs : List Goes) → held (holds (values gs)) (suc (length gs)) ≡ none
+copy_free [] = refl
+copy_free (g ∷ gs) = copy_free gs
 
 -- what a function owns of what is lent to it, which is h now, and i besides
 abbrev pub loan : {M : Type 1} {𝓤 : Ura M} (R : RattleType) → Lft → Share → MutBor R.Denot → R.Denot → Item 𝓤 → List (Item 𝓤)
@@ -129,9 +129,9 @@ module _ {M : Type 1} {𝓤 : Ura M} (𝓛 : Logic 𝓤) (C : Calls 𝓤 𝓛.H)
 
   copied : (taken : Bool) (Φ : List (Item 𝓤)) (E : Locals) (ms : List (Option Val)) (c : ℕ) (is : List ℕ) (τ : Ty) (b o : ℕ)
       (u : Val) {rest : Body} {q : Post 𝓤 H} → T (there E 1) → held ms 1 ≡ some (vptr b o) → held ms c ≡ none
-      → T (all_there E (if-taken taken c is)) → if-taken taken (at E c).0 [] ≡ if-taken taken τ [] → T (has_ty τ u) × WT u
+      → T (all_there E (if_taken taken c is)) → if_taken taken (at E c).0 [] ≡ if_taken taken τ [] → T (has_ty τ u) × WT u
       → Sq 𝓛 (‵ (fat full_share (raw_ty τ) b o u) ∷ (Φ ++ slots E (copy_holds taken c u ms))) (runs C Λ E rest q)
-      → Sq 𝓛 (‵ (fat full_share (raw_ty τ) b o u) ∷ (Φ ++ slots E ms)) (runs C Λ E (copy-code taken c τ rest) q)
+      → Sq 𝓛 (‵ (fat full_share (raw_ty τ) b o u) ∷ (Φ ++ slots E ms)) (runs C Λ E (copy_code taken c τ rest) q)
   copied false Φ E ms c is τ b o u in-1 held-1 free in_c is-τ wt go = go
   copied true Φ E ms c is τ b o u in-1 held-1 free in_c is-τ wt go =
       let of_c : (at E c).0 ≡ τ = cc in
@@ -140,7 +140,7 @@ module _ {M : Type 1} {𝓤 : Ura M} (𝓛 : Logic 𝓤) (C : Calls 𝓤 𝓛.H)
 
   module _ (fm : FmC 𝓤 H 𝓛.laws C) (taken : Bool) (Z : Lent) (fn : Fn) (callee : Name) (gs : List Goes)
       (lends : Lends taken Z fn callee gs) where
-    open Z use {Struct, struct_laws, struct_plain, Answer, answer-laws, number, stored, answer-type, answer-value, owed}
+    open Z use {Struct, struct_laws, struct_plain, Answer, answer_laws, number, stored, answer_type, answer_value, owed}
 
     abbrev S : RattleType
     S = row Struct
@@ -151,7 +151,7 @@ module _ {M : Type 1} {𝓤 : Ura M} (𝓛 : Logic 𝓤) (C : Calls 𝓤 𝓛.H)
     -- R is what the callee asks besides the struct, R' what it leaves besides its answer, and Kf what the function promises
     pub walks : (κ : Lft) (q : Share) (x : MutBor Struct.D) (R : SProp 𝓤) (R' : Answer.D → SProp 𝓤) (Q Kf : Val → SProp 𝓤)
         → ent 𝓤 (sep 𝓤 (sem 𝓛 (S.own_val x.now (spelled x.now ∷ []))) R)
-        (C callee (if-taken taken (spelled x.now) (values gs)) Q)
+        (C callee (if_taken taken (spelled x.now) (values gs)) Q)
         → ((v : Val) → ent 𝓤 (Q v) (H.⇛ (ex 𝓤 (λ (r : Answer.D). sep 𝓤 (sem 𝓛 ((row Answer).own_val r (v ∷ []))) (R' r)))))
         → ((r : Answer.D) → number r < 2 ^ 32 → ent 𝓤 (⋆ 𝓛 (loan S κ q x (stored r) (raw (R' r)))) (Kf (vint w32 (number r))))
         → ent 𝓤 (⋆ 𝓛 (loan S κ q x x.now (raw R))) (WpFn 𝓤 H C Λ fn (vptr x.ref_ptr.0 x.ref_ptr.1 ∷ values gs) Kf)
@@ -160,55 +160,55 @@ module _ {M : Type 1} {𝓤 : Ura M} (𝓛 : Logic 𝓤) (C : Calls 𝓤 𝓛.H)
         let o : ℕ = x.ref_ptr.1 in
         let h : Struct.D = x.now in
         qed 𝓛 (loan S κ q x h (raw R)) ∵
-        enter ! C Λ fn (vptr b o ∷ values gs) Kf $ all-allocated ! fn.locals (λ bs.
+        enter ! C Λ fn (vptr b o ∷ values gs) Kf $ all_allocated ! fn.locals (λ bs.
         let E : Locals = placed fn.locals bs in
         let r-at : ℕ = answer_at taken gs in
-        let args : List ℕ = arguments-at taken gs in
+        let args : List ℕ = arguments_at taken gs in
         let m₀ : List (Option Val) = at_first taken gs (vptr b o) in
-        let m₁ : List (Option Val) = when-copied taken gs (vptr b o) (spelled h) in
-        let m₂ : List (Option Val) = again-holds gs (free-at taken gs) m₁ in
+        let m₁ : List (Option Val) = when_copied taken gs (vptr b o) (spelled h) in
+        let m₂ : List (Option Val) = again_holds gs (free_at taken gs) m₁ in
         let ok : LocalsFit taken gs Z E (vptr b o) (spelled h) = lends.fits bs b o (spelled h) in
         let in-0 : T (there E 0) × T (all_there E (1 ∷ r-at ∷ args)) = and_T (there E 0) _ ok.1 in
         let in-1 : T (there E 1) × T (all_there E (r-at ∷ args)) = and_T (there E 1) _ in-0.1 in
         let in-r : T (there E r-at) × T (all_there E args) = and_T (there E r-at) _ in-1.1 in
-        let types : (at E 0).0 ∷ (at E r-at).0 ∷ if-taken taken (at E (suc r-at)).0 []
-        ≡ ty_int w32 ∷ layout (shape Answer) ∷ if-taken taken (layout (shape Struct)) [] = ok.2 in
+        let types : (at E 0).0 ∷ (at E r-at).0 ∷ if_taken taken (at E (suc r-at)).0 []
+        ≡ ty_int w32 ∷ layout (shape Answer) ∷ if_taken taken (layout (shape Struct)) [] = ok.2 in
         let holding : held m₂ 0 ∷ held m₂ 1 ∷ held m₂ r-at ∷ all_held m₂ args
-        ≡ none ∷ some (vptr b o) ∷ none ∷ holds (if-taken taken (spelled h) (values gs)) = ok.4 in
-        all-stored ! E (vptr b o ∷ values gs) _ ok.0 (regoal ! (λ (bd : Body). runs C Λ E bd (at_ret E Kf)) lends.body_is refl $
+        ≡ none ∷ some (vptr b o) ∷ none ∷ holds (if_taken taken (spelled h) (values gs)) = ok.4 in
+        all_stored ! E (vptr b o ∷ values gs) _ ok.0 (regoal ! (λ (bd : Body). runs C Λ E bd (at_ret E Kf)) lends.body_is refl $
         opens ! tt S {h = h} b o (λ us.
         spelt ! S (Is S) (shows 𝓛 S) (LL.vals Struct struct_laws) (LL.tells Struct struct_laws) full_share h us b o $
         move ! (1 ∷ []) $ peeks ! S (Is S) (shows 𝓛 S) h (LL.vals Struct struct_laws h) (λ was. move ! (1 ∷ 0 ∷ []) $
         -- [the lent cell; what is owned; the open borrow; obs; auth; R; the locals]
-        copied taken (_ ∷ _ ∷ _ ∷ _ ∷ _ ∷ []) E m₀ (suc r-at) (again-at gs 2 (free-at taken gs)) (layout (shape Struct)) b o
-        (spelled h) in-1.0 refl (copy-free gs) in-r.1 (cc) ((LL.lawful Struct struct_laws 𝓛).typed h _ was).0
-        (lent_again ! (_ ∷ _ ∷ _ ∷ _ ∷ _ ∷ _ ∷ []) E m₁ gs 2 (free-at taken gs) ok.3 (move ! (5 ∷ []) $
+        copied taken (_ ∷ _ ∷ _ ∷ _ ∷ _ ∷ []) E m₀ (suc r-at) (again_at gs 2 (free_at taken gs)) (layout (shape Struct)) b o
+        (spelled h) in-1.0 refl (copy_free gs) in-r.1 (cc) ((LL.lawful Struct struct_laws 𝓛).typed h _ was).0
+        (lent_again ! (_ ∷ _ ∷ _ ∷ _ ∷ _ ∷ _ ∷ []) E m₁ gs 2 (free_at taken gs) ok.3 (move ! (5 ∷ []) $
         owned ! S (Is S) (LL.makes Struct struct_plain 𝓛) h _ was $ join ! $
-        calls_from ! fm _ (if-taken taken (spelled h) (values gs)) Q calls (sees-all ! (_ ∷ _ ∷ _ ∷ _ ∷ _ ∷ _ ∷ []) E m₂ args
-        (if-taken taken (spelled h) (values gs)) in-r.1 (cc)) (λ v.
+        calls_from ! fm _ (if_taken taken (spelled h) (values gs)) Q calls (sees_all ! (_ ∷ _ ∷ _ ∷ _ ∷ _ ∷ _ ∷ []) E m₂ args
+        (if_taken taken (spelled h) (values gs)) in-r.1 (cc)) (λ v.
         use1 𝓛 (later (some' (λ (r : Answer.D). ‵ ((row Answer).own_val r (v ∷ [])) ⊛ raw (R' r)))) (answers v) $ await ! tt $
         pick ! (λ r. split ! $
         peeks ! (row Answer) (Is (row Answer)) (shows 𝓛 (row Answer)) r (v ∷ []) (λ is. drop ! $
         let m₃ : List (Option Val) = hold m₂ r-at v in
         let m₄ : List (Option Val) = hold m₃ 0 (vint w32 (number r)) in
         let is-v : held m₃ r-at ≡ some (vstruct (vcons (vint w32 (number r)) (vcons (spelled (stored r)) vnil))) =
-        held-there m₂ r-at v ∙ ap some (ap only (LL.tells Answer answer-laws r _ is) ∙ answer-value r) in
+        held_there m₂ r-at v ∙ ap some (ap only (LL.tells Answer answer_laws r _ is) ∙ answer_value r) in
         let of-0 : (at E 0).0 ≡ ty_int w32 = cc in
         let of-r : (at E r-at).0 ≡ layout (shape Answer) = cc in
         let is-r : (at E r-at).0 ≡ ty_struct Answer.name (tcons (ty_int w32) (tcons (layout (shape Struct)) tnil)) =
-        of-r ∙ answer-type in
+        of-r ∙ answer_type in
         -- [R'; the lent cell; what was owned; the open borrow; obs; auth; the locals]
         land ! (from ! (stop !)) (sets ! (_ ∷ _ ∷ _ ∷ _ ∷ _ ∷ _ ∷ []) E m₂ r-at in-r.0 (cc)
-        (rw of-r ((LL.lawful Answer answer-laws 𝓛).typed r _ is).0)) $
+        (rw of-r ((LL.lawful Answer answer_laws 𝓛).typed r _ is).0)) $
         assigns ! (of_opd ! (load ! (from ! (fld ! (ap (λ (σ : Ty). field_of σ 1) is-r) (stop !)))
-        (sees-in ! (_ ∷ _ ∷ _ ∷ _ ∷ _ ∷ _ ∷ []) E m₃ r-at in-r.0 is-r is-v 1 refl)))
+        (sees_in ! (_ ∷ _ ∷ _ ∷ _ ∷ _ ∷ _ ∷ []) E m₃ r-at in-r.0 is-r is-v 1 refl)))
         (from ! (hop ! (sees ! (_ ∷ _ ∷ _ ∷ _ ∷ _ ∷ _ ∷ []) E m₃ 1 in-1.0 (cc)) (stop !)))
         (store_raw ! 1 refl ((LL.lawful Struct struct_laws 𝓛).typed (stored r) _ (owed r _ is).1).0) $
         assigns ! (of_opd ! (load ! (from ! (fld ! (ap (λ (σ : Ty). field_of σ 0) is-r) (stop !)))
-        (sees-in ! (_ ∷ _ ∷ _ ∷ _ ∷ _ ∷ _ ∷ []) E m₃ r-at in-r.0 is-r is-v 0 refl)))
+        (sees_in ! (_ ∷ _ ∷ _ ∷ _ ∷ _ ∷ _ ∷ []) E m₃ r-at in-r.0 is-r is-v 0 refl)))
         (from ! (stop !)) (sets ! (_ ∷ _ ∷ _ ∷ _ ∷ _ ∷ _ ∷ []) E m₃ 0 in-0.0 (cc)
         (rw of-0 (tt, record { fits = (owed r _ is).0 }))) $
         move ! (2 ∷ []) $ drop ! $ owned ! S (Is S) (LL.makes Struct struct_plain 𝓛) (stored r) _ (owed r _ is).1 $
         move ! (2 ∷ 0 ∷ 3 ∷ 4 ∷ 5 ∷ []) $ closes ! tt S (stored r) (spelled (stored r) ∷ []) b o $
         returns ! (sees ! (_ ∷ _ ∷ _ ∷ _ ∷ []) E m₄ 0 in-0.0 refl) $
-        all-freed ! (_ ∷ _ ∷ _ ∷ _ ∷ []) E m₄ (by ! (ends r (owed r _ is).0)))))))))))
+        all_freed ! (_ ∷ _ ∷ _ ∷ _ ∷ []) E m₄ (by ! (ends r (owed r _ is).0)))))))))))

@@ -2,7 +2,7 @@
 ghost use Rattle.std.specs.Prelude.{◌≡◌, ◌+◌, ◌^◌, ◌<◌, length, take};
 ghost use Rattle.hash_field.specs.Element.{value_of};
 ghost use Rattle.pieces.specs.Piece.{sixteen};
-ghost use Rattle.message.specs.Message.{noMessage, messageBegun, messageAfter, wholeSum};
+ghost use Rattle.message.specs.Message.{no_message, message_begun, message_after, whole_sum};
 
 use ghash::{absorb, hash_bytes, length_block};
 use hash_field::Element;
@@ -27,7 +27,7 @@ pub struct Message {
 
 // No message: every field zero.
 pub fn no_message() -> Message
-    ensures { result ≡ noMessage }
+    ensures { result ≡ no_message }
 {
     Message {
         number: 0,
@@ -42,7 +42,7 @@ pub fn no_message() -> Message
 // A message under a number, with its associated data in the hash and no text yet.
 pub fn message_begun(h: Element, n: u64, ad: &[u8]) -> Message
     requires { length ad.now < 2 ^ 32 }
-    ensures { result ≡ messageBegun (value_of h) n ad.now }
+    ensures { result ≡ message_begun (value_of h) n ad.now }
 {
     let zero = Element { high: 0, low: 0 };
     let sum = hash_bytes(h, zero, ad);
@@ -59,7 +59,7 @@ pub fn message_begun(h: Element, n: u64, ad: &[u8]) -> Message
 // The message with bytes of ciphertext taken in.
 pub fn message_after(h: Element, m: Message, bytes: &[u8]) -> Message
     requires { m.text + length bytes.now < 2 ^ 32 }
-    ensures { result ≡ messageAfter (value_of h) m bytes.now }
+    ensures { result ≡ message_after (value_of h) m bytes.now }
 {
     let sum = m.sum;
     let part = m.part;
@@ -79,7 +79,7 @@ pub fn message_after(h: Element, m: Message, bytes: &[u8]) -> Message
 
 // The hash of the whole message, its lengths behind it.
 pub fn message_sum(h: Element, m: Message) -> Element
-    ensures { value_of result ≡ wholeSum (value_of h) m }
+    ensures { value_of result ≡ whole_sum (value_of h) m }
 {
     let sum = m.sum;
     let part = m.part;

@@ -9,53 +9,53 @@ use native.Mathlib.Omega.{arith}
 use lib.ListN.{length, take, length-append, length-take, take-append-drop}
 use lib.Seq.{take_at, drop_at}
 use Rattle.octets.proofs.BytesLaws.{same_true, same_refl}
-use Rattle.mode.specs.Mode.{hashKey, firstBlock, wholeTag, sealedBy, sealed, ciphertextOf, tag_of, genuine, opened}
+use Rattle.mode.specs.Mode.{hash_key, first_block, whole_tag, sealed_by, sealed, ciphertext_of, tag_of, genuine, opened}
 use Rattle.counter.specs.Counter.{crypted}
 use Rattle.mode.proofs.ModeLaws.{length-tag}
-use Rattle.counter.proofs.CounterLaws.{crypted-twice}
+use Rattle.counter.proofs.CounterLaws.{crypted_twice}
 
-ciphertext-of : (c tag : List ℕ) (t : ℕ) → length tag ≡ t → ciphertextOf t (c ++ tag) ≡ c
+ciphertext-of : (c tag : List ℕ) (t : ℕ) → length tag ≡ t → ciphertext_of t (c ++ tag) ≡ c
 ciphertext-of c tag t h = take_at c tag (length (c ++ tag) - t) (rw length-append (omega arith))
 
 tag-of : (c tag : List ℕ) (t : ℕ) → length tag ≡ t → tag_of t (c ++ tag) ≡ tag
 tag-of c tag t h = drop_at c tag (length (c ++ tag) - t) (rw length-append (omega arith))
 
 -- the tag of t bytes that a ciphertext has
-abbrev tagFor : (List ℕ → List ℕ) → List ℕ → List ℕ → ℕ → List ℕ → List ℕ
-tagFor e iv ad t c = take t (wholeTag e (firstBlock (hashKey e) iv) ad c)
+abbrev tag_for : (List ℕ → List ℕ) → List ℕ → List ℕ → ℕ → List ℕ → List ℕ
+tag_for e iv ad t c = take t (whole_tag e (first_block (hash_key e) iv) ad c)
 
-length-tag-for : (e : List ℕ → List ℕ) (iv ad : List ℕ) (t : ℕ) (c : List ℕ) → t ≤ 16 → length (tagFor e iv ad t c) ≡ t
-length-tag-for e iv ad t c h = simp (length-take, length-tag) (omega arith)
+length-tag_for : (e : List ℕ → List ℕ) (iv ad : List ℕ) (t : ℕ) (c : List ℕ) → t ≤ 16 → length (tag_for e iv ad t c) ≡ t
+length-tag_for e iv ad t c h = simp (length-take, length-tag) (omega arith)
 
 -- a sealed form passes the test
 pub sealed-genuine : (e : List ℕ → List ℕ) (iv ad : List ℕ) (t : ℕ) (text : List ℕ) → t ≤ 16
     → genuine e iv ad t (sealed e iv ad t text) ≡ true
-unfolding genuine sealed sealedBy
+unfolding genuine sealed sealed_by
 sealed-genuine e iv ad t text h =
-    let c = crypted e (firstBlock (hashKey e) iv) text in
-    let long = length-tag-for e iv ad t c h in
-    rw (tag-of c (tagFor e iv ad t c) t long, ciphertext-of c (tagFor e iv ad t c) t long) (same_refl (tagFor e iv ad t c))
+    let c = crypted e (first_block (hash_key e) iv) text in
+    let long = length-tag_for e iv ad t c h in
+    rw (tag-of c (tag_for e iv ad t c) t long, ciphertext-of c (tag_for e iv ad t c) t long) (same_refl (tag_for e iv ad t c))
 
 module _ (e : List ℕ → List ℕ) (sixteen : (b : List ℕ) → length (e b) ≡ 16) (iv ad : List ℕ) (t : ℕ) where
   pub opens-sealed : (text : List ℕ) → t ≤ 16 → opened e iv t (sealed e iv ad t text) ≡ text
-  unfolding opened sealed sealedBy
+  unfolding opened sealed sealed_by
   opens-sealed text h =
-      let j = firstBlock (hashKey e) iv in
+      let j = first_block (hash_key e) iv in
       let c = crypted e j text in
-      ap (crypted e j) (ciphertext-of c (tagFor e iv ad t c) t (length-tag-for e iv ad t c h)) ∙ crypted-twice e sixteen j text
+      ap (crypted e j) (ciphertext-of c (tag_for e iv ad t c) t (length-tag_for e iv ad t c h)) ∙ crypted_twice e sixteen j text
 
   -- what passes the test is the sealed form of what it opens to
   pub genuine-sealed : (s : List ℕ) → genuine e iv ad t s ≡ true → sealed e iv ad t (opened e iv t s) ≡ s
-  unfolding genuine sealed sealedBy opened
+  unfolding genuine sealed sealed_by opened
   genuine-sealed s g =
-      let c = ciphertextOf t s in
-      rw (crypted-twice e sixteen (firstBlock (hashKey e) iv) c, ← same_true (tag_of t s) (tagFor e iv ad t c) g)
+      let c = ciphertext_of t s in
+      rw (crypted_twice e sixteen (first_block (hash_key e) iv) c, ← same_true (tag_of t s) (tag_for e iv ad t c) g)
       (take-append-drop (length s - t) s)
 
   -- the test fails exactly where no text has that sealed form
-  pub refused-exactly : (s : List ℕ) → t ≤ 16
+  pub refused_exactly : (s : List ℕ) → t ≤ 16
       → (genuine e iv ad t s ≡ false) ↔ ((text : List ℕ) → sealed e iv ad t text ≡ s → ⊥)
-  refused-exactly s h = (forth, λ none. back (genuine e iv ad t s) refl none)
+  refused_exactly s h = (forth, λ none. back (genuine e iv ad t s) refl none)
     where
       forth : genuine e iv ad t s ≡ false → (text : List ℕ) → sealed e iv ad t text ≡ s → ⊥
       forth g text q = false≢true (sym g ∙ ap (genuine e iv ad t) (sym q) ∙ sealed-genuine e iv ad t text h)
@@ -66,5 +66,5 @@ module _ (e : List ℕ → List ℕ) (sixteen : (b : List ℕ) → length (e b) 
       back false g none = g
 
   -- no two texts have one sealed form
-  pub only-text : (text text' : List ℕ) → t ≤ 16 → sealed e iv ad t text ≡ sealed e iv ad t text' → text ≡ text'
-  only-text text text' h q = sym (opens-sealed text h) ∙ ap (opened e iv t) q ∙ opens-sealed text' h
+  pub only_text : (text text' : List ℕ) → t ≤ 16 → sealed e iv ad t text ≡ sealed e iv ad t text' → text ≡ text'
+  only_text text text' h q = sym (opens-sealed text h) ∙ ap (opened e iv t) q ∙ opens-sealed text' h

@@ -1,11 +1,11 @@
 // The parts of AES-GCM's mode (SP 800-38D) beside the counter: the hash key, the first block of a message, and its tag.
 ghost use Rattle.std.specs.Prelude.{◌≡◌, ◌^◌, ◌≤◌, ◌<◌, length, take};
-ghost use Rattle.octets.specs.Block.{blockBytes};
+ghost use Rattle.octets.specs.Block.{block_bytes};
 ghost use Rattle.octets.specs.Bytes.{same};
 ghost use Rattle.sbox.specs.Substitution.{Substitutes};
-ghost use Rattle.aes.specs.Cipher.{encipheredBy};
+ghost use Rattle.aes.specs.Cipher.{enciphered_by};
 ghost use Rattle.hash_field.specs.Element.{value_of};
-ghost use Rattle.mode.specs.Mode.{hashKey, hashedIv, firstBlock, tagBy};
+ghost use Rattle.mode.specs.Mode.{hash_key, hashed_iv, first_block, tag_by};
 
 use aes::encipher_by;
 use counter::counter_block;
@@ -16,7 +16,7 @@ use hash_field::{Element, plus};
 pub fn hash_key(table: &[u8; 256], words: &[u32; 60], rounds: usize) -> Element
     requires substitutes { Substitutes table.now }
     requires rounds_bound { rounds ≤ 14 }
-    ensures { value_of result ≡ hashKey (encipheredBy words.now rounds) }
+    ensures { value_of result ≡ hash_key (enciphered_by words.now rounds) }
 {
     element_of(encipher_by(table, words, rounds, [0u8; 16]))
 }
@@ -24,7 +24,7 @@ pub fn hash_key(table: &[u8; 256], words: &[u32; 60], rounds: usize) -> Element
 // The first counter block of a message (SP 800-38D: J0).
 pub fn first_block(h: Element, iv: &[u8]) -> [u8; 16]
     requires { length iv.now < 2 ^ 61 }
-    ensures { result ≡ firstBlock (value_of h) iv.now }
+    ensures { result ≡ first_block (value_of h) iv.now }
 {
     if iv.len() == 12 {
         return counter_block(iv, 1);
@@ -34,7 +34,7 @@ pub fn first_block(h: Element, iv: &[u8]) -> [u8; 16]
 
 fn hashed_first_block(h: Element, iv: &[u8]) -> [u8; 16]
     requires { length iv.now < 2 ^ 61 }
-    ensures { result ≡ blockBytes (hashedIv (value_of h) iv.now) }
+    ensures { result ≡ block_bytes (hashed_iv (value_of h) iv.now) }
 {
     let zero = Element { high: 0, low: 0 };
     let sum = hash_bytes(h, zero, iv);
@@ -54,7 +54,7 @@ pub fn tag(
     requires substitutes { Substitutes table.now }
     requires rounds_bound { rounds ≤ 14 }
     requires ad_len_bound { (length ad.now < 2 ^ 61) × (length text.now < 2 ^ 61) }
-    ensures { result ≡ tagBy (value_of h) (encipheredBy words.now rounds) j ad.now text.now }
+    ensures { result ≡ tag_by (value_of h) (enciphered_by words.now rounds) j ad.now text.now }
 {
     let zero = Element { high: 0, low: 0 };
     let after_ad = hash_bytes(h, zero, ad);

@@ -9,8 +9,8 @@ use lib.ListN.{length, take, drop, length-drop, take-append-drop}
 use lib.Seq.{get_or-drop, length-take-le, drop-append-le, drop-drop}
 use lib.Pow.{high, low, shr-shr, field, mod-mod-pow, mod-pow-add}
 use Rattle.octets.specs.Word.{word_at, bytes_of}
-use Rattle.octets.specs.Block.{number_at, blockBytes, blocksFor, blocks, padded}
-use Rattle.octets.proofs.ElementsLaws.{elements-front}
+use Rattle.octets.specs.Block.{number_at, block_bytes, blocks_for, blocks, padded}
+use Rattle.octets.proofs.ElementsLaws.{elements_front}
 
 -- A block at an index is the first one of what stands there.
 pub number-drop : (s : List ℕ) (i : ℕ) → number_at (drop i s) 0 ≡ number_at s i
@@ -25,13 +25,13 @@ padded-nil = refl
 pub padded-cons : (s : List ℕ) → 0 < length s → padded s ≡ number_at s 0 ∷ padded (drop 16 s)
 unfolding padded blocks
 padded-cons s positive =
-    let more : blocksFor (length s) ≡ suc (blocksFor (length s - 16)) = omega arith in
+    let more : blocks_for (length s) ≡ suc (blocks_for (length s - 16)) = omega arith in
     ap (λ (n : ℕ). blocks n s) more
-    ∙ ap (λ (n : ℕ). number_at s 0 ∷ blocks (blocksFor n) (drop 16 s)) (sym (length-drop 16 s))
+    ∙ ap (λ (n : ℕ). number_at s 0 ∷ blocks (blocks_for n) (drop 16 s)) (sym (length-drop 16 s))
 
 -- A first block is made of the first sixteen bytes alone
 number-front : (c d : List ℕ) → 16 ≤ length c → number_at (c ++ d) 0 ≡ number_at c 0
-number-front c d h = ap (λ (s : List ℕ). number_at s 0) (elements-front 16 c d 0 (omega arith))
+number-front c d h = ap (λ (s : List ℕ). number_at s 0) (elements_front 16 c d 0 (omega arith))
 
 -- The first blocks are made of the bytes in front alone
 pub blocks-front : (n : ℕ) (c d : List ℕ) → n * 16 ≤ length c → blocks n (c ++ d) ≡ blocks n c
@@ -59,7 +59,7 @@ pub padded-whole : (n : ℕ) (s : List ℕ) → n * 16 ≤ length s → padded (
 unfolding padded
 padded-whole n s h =
     let size : length (take (n * 16) s) ≡ n * 16 = length-take-le (n * 16) s h in
-    let count : blocksFor (length (take (n * 16) s)) ≡ n = omega arith in
+    let count : blocks_for (length (take (n * 16) s)) ≡ n = omega arith in
     ap (λ (k : ℕ). blocks k (take (n * 16) s)) count
     ∙ sym (blocks-front n (take (n * 16) s) (drop (n * 16) s) (omega arith))
     ∙ ap (blocks n) (take-append-drop (n * 16) s)
@@ -75,8 +75,8 @@ bytes_low w =
 
 -- The bytes of a block are those of the four words of its halves.
 pub block-bytes : (h l : ℕ) → l < 2 ^ 64
-    → blockBytes (h * 2 ^ 64 + l) ≡ bytes_of (h / 2 ^ 32) ++ bytes_of (h % 2 ^ 32) ++ bytes_of (l / 2 ^ 32) ++ bytes_of (l % 2 ^ 32)
-unfolding blockBytes
+    → block_bytes (h * 2 ^ 64 + l) ≡ bytes_of (h / 2 ^ 32) ++ bytes_of (h % 2 ^ 32) ++ bytes_of (l / 2 ^ 32) ++ bytes_of (l % 2 ^ 32)
+unfolding block_bytes
 block-bytes h l below =
     let n = h * 2 ^ 64 + l in
     let upper = high h 64 below in
@@ -87,8 +87,8 @@ block-bytes h l below =
     (sym (bytes_low n) ∙ ap bytes_of (sym (mod-mod-pow n 32 32) ∙ ap (λ (x : ℕ). x % 2 ^ 32) lower))))
 
 -- A number has sixteen bytes.
-pub length-block : (n : ℕ) → length (blockBytes n) ≡ 16
-unfolding blockBytes
+pub length-block : (n : ℕ) → length (block_bytes n) ≡ 16
+unfolding block_bytes
 length-block n = refl
 
 -- j digits and the byte below them are j + 8 digits

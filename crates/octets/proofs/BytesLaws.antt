@@ -13,7 +13,7 @@ use lib.Dec.{eqb}
 use lib.ListN.{length, get_or, take, drop, drop_of_length-le}
 use lib.Seq.{take_all, drop-cons}
 use Rattle.octets.specs.Bytes.{xored, same}
-use Rattle.octets.proofs.XorLaws.{xor-cancel}
+use Rattle.octets.proofs.XorLaws.{xor_cancel}
 
 pub length-xored : (s k : List ℕ) → length (xored s k) ≡ min (length s) (length k)
 unfolding xored
@@ -21,8 +21,8 @@ length-xored [] k = sym (zero-min (length k))
 length-xored (a ∷ s) [] = sym (min-zero (suc (length s)))
 length-xored (a ∷ s) (b ∷ k) = ap suc (length-xored s k) ∙ sym (suc-min-suc (length s) (length k))
 
-pub length-xored-le : (s k : List ℕ) → length s ≤ length k → length (xored s k) ≡ length s
-length-xored-le s k h = length-xored s k ∙ min-eq_left h
+pub length-xored_le : (s k : List ℕ) → length s ≤ length k → length (xored s k) ≡ length s
+length-xored_le s k h = length-xored s k ∙ min-eq_left h
 
 -- the xor with two lists, one after the other: each meets its own part of s
 pub xored-append : (s a b : List ℕ) → xored s (a ++ b) ≡ xored (take (length a) s) a ++ xored (drop (length a) s) b
@@ -31,17 +31,17 @@ xored-append s [] b = refl
 xored-append [] (x ∷ a) b = refl
 xored-append (y ∷ s) (x ∷ a) b = ap {B = List ℕ} (λ r. bit_xor y x ∷ r) (xored-append s a b)
 
-xored-none : (s : List ℕ) → xored s [] ≡ []
+xored_none : (s : List ℕ) → xored s [] ≡ []
 unfolding xored
-xored-none [] = refl
-xored-none (a ∷ s) = refl
+xored_none [] = refl
+xored_none (a ∷ s) = refl
 
 -- the xor of two lists, one after the other, with k: the second meets what stands in k behind the first
-pub xored-over : (s t k : List ℕ) → xored (s ++ t) k ≡ xored s k ++ xored t (drop (length s) k)
+pub xored_over : (s t k : List ℕ) → xored (s ++ t) k ≡ xored s k ++ xored t (drop (length s) k)
 unfolding xored
-xored-over [] t k = refl
-xored-over (a ∷ s) t [] = sym (xored-none t)
-xored-over (a ∷ s) t (b ∷ k) = ap {B = List ℕ} (λ r. bit_xor a b ∷ r) (xored-over s t k)
+xored_over [] t k = refl
+xored_over (a ∷ s) t [] = sym (xored_none t)
+xored_over (a ∷ s) t (b ∷ k) = ap {B = List ℕ} (λ r. bit_xor a b ∷ r) (xored_over s t k)
 
 -- a list meets nothing of what stands in the other past its own end
 pub xored-front : (s a b : List ℕ) → length s ≤ length a → xored s (a ++ b) ≡ xored s a
@@ -51,12 +51,12 @@ xored-front s a b h =
     ∙ ap₂ (λ (x y : List ℕ). xored x a ++ xored y b) (take_all (length a) s h) (drop_of_length-le s h)
     ∙ append-nil (xored s a)
 
-pub xored-twice : (s k : List ℕ) → length s ≤ length k → xored (xored s k) k ≡ s
+pub xored_twice : (s k : List ℕ) → length s ≤ length k → xored (xored s k) k ≡ s
 unfolding xored
-xored-twice [] k h = refl
-xored-twice (a ∷ s) [] h = absurd (not-suc-le-zero h)
-xored-twice (a ∷ s) (b ∷ k) h =
-    ap₂ {C = List ℕ} (λ x r. x ∷ r) (xor-cancel a b) (xored-twice s k (le_of_suc-le-suc h))
+xored_twice [] k h = refl
+xored_twice (a ∷ s) [] h = absurd (not-suc-le-zero h)
+xored_twice (a ∷ s) (b ∷ k) h =
+    ap₂ {C = List ℕ} (λ x r. x ∷ r) (xor_cancel a b) (xored_twice s k (le_of_suc-le-suc h))
 
 -- Two tests that hold together hold each.
 pub both_true : (a b : Bool) → (a && b) ≡ true → (a ≡ true) × (b ≡ true)
@@ -78,12 +78,12 @@ same_refl [] = refl
 same_refl (a ∷ s) = rw (eq-eqb a a refl, same_refl s)
 
 -- a byte of the xor
-pub getD-xored : (s k : List ℕ) (i : ℕ) → i < length s → i < length k → get_or (xored s k) i 0 ≡ bit_xor (get_or s i 0) (get_or k i 0)
+pub get_or-xored : (s k : List ℕ) (i : ℕ) → i < length s → i < length k → get_or (xored s k) i 0 ≡ bit_xor (get_or s i 0) (get_or k i 0)
 unfolding xored
-getD-xored [] k i hs hk = absurd (not-suc-le-zero hs)
-getD-xored (a ∷ s) [] i hs hk = absurd (not-suc-le-zero hk)
-getD-xored (a ∷ s) (b ∷ k) zero hs hk = refl
-getD-xored (a ∷ s) (b ∷ k) (suc i) hs hk = getD-xored s k i (le_of_suc-le-suc hs) (le_of_suc-le-suc hk)
+get_or-xored [] k i hs hk = absurd (not-suc-le-zero hs)
+get_or-xored (a ∷ s) [] i hs hk = absurd (not-suc-le-zero hk)
+get_or-xored (a ∷ s) (b ∷ k) zero hs hk = refl
+get_or-xored (a ∷ s) (b ∷ k) (suc i) hs hk = get_or-xored s k i (le_of_suc-le-suc hs) (le_of_suc-le-suc hk)
 
 -- what stands past the end of k does not matter
 pub xored-cut : (n : ℕ) (s k : List ℕ) → length k ≤ n → xored (take n s) k ≡ xored s k
@@ -95,11 +95,11 @@ xored-cut (suc n) [] k h = refl
 xored-cut (suc n) (a ∷ s) [] h = refl
 xored-cut (suc n) (a ∷ s) (b ∷ k) h = ap {B = List ℕ} (λ r. bit_xor a b ∷ r) (xored-cut n s k (le_of_suc-le-suc h))
 
-or-is-zero : (a b : ℕ) → bit_or a b ≡ 0 → (a ≡ 0) × (b ≡ 0)
-or-is-zero a b e = omega (arith, or_add_and a b, and_le_l a b, and_le_r a b)
+or_is_zero : (a b : ℕ) → bit_or a b ≡ 0 → (a ≡ 0) × (b ≡ 0)
+or_is_zero a b e = omega (arith, or_add_and a b, and_le_l a b, and_le_r a b)
 
-xor-is-zero : (a b : ℕ) → bit_xor a b ≡ 0 → a ≡ b
-xor-is-zero a b e = omega (arith, xor_add_and a b, and_le_l a b, and_le_r a b)
+xor_is_zero : (a b : ℕ) → bit_xor a b ≡ 0 → a ≡ b
+xor_is_zero a b e = omega (arith, xor_add_and a b, and_le_l a b, and_le_r a b)
 
 -- differences gathered by or stay zero just while the bytes agree
 gathered : (d x y : ℕ) → eqb (bit_or d (bit_xor x y)) 0 ≡ (eqb d 0 && eqb x y)
@@ -109,8 +109,8 @@ gathered d x y = go (eqb d 0) (eqb x y) refl refl
     go true true e f =
         eq-eqb _ 0 (ap₂ (λ (a b : ℕ). bit_or a (bit_xor b y)) (eqb-true d 0 e) (eqb-true x y f) ∙ xor_self y)
     go true false e f =
-        ne_eqb _ 0 (λ none. eqb-false x y f (xor-is-zero x y (or-is-zero d (bit_xor x y) none).1))
-    go false q e f = ne_eqb _ 0 (λ none. eqb-false d 0 e (or-is-zero d (bit_xor x y) none).0)
+        ne_eqb _ 0 (λ none. eqb-false x y f (xor_is_zero x y (or_is_zero d (bit_xor x y) none).1))
+    go false q e f = ne_eqb _ 0 (λ none. eqb-false d 0 e (or_is_zero d (bit_xor x y) none).0)
 
 -- comparing from index i on, with the differences before it gathered in d
 pub same_more : (d i : ℕ) (s t : List ℕ) → i < length s → i < length t

@@ -13,28 +13,28 @@ abbrev pub elements : ℕ → List ℕ → ℕ → List ℕ
 elements zero s i = []
 elements (suc n) s i = get_or s i 0 ∷ elements n s (suc i)
 
-pub elements-at : (n : ℕ) (s : List ℕ) (i k : ℕ) → k < n → get_or (elements n s i) k 0 ≡ get_or s (i + k) 0
-elements-at zero s i k h = absurd (omega arith)
-elements-at (suc n) s i zero h = ap (λ m. get_or s m 0) (omega arith)
-elements-at (suc n) s i (suc k) h = elements-at n s (suc i) k (omega arith) ∙ ap (λ m. get_or s m 0) (omega arith)
+pub elements_at : (n : ℕ) (s : List ℕ) (i k : ℕ) → k < n → get_or (elements n s i) k 0 ≡ get_or s (i + k) 0
+elements_at zero s i k h = absurd (omega arith)
+elements_at (suc n) s i zero h = ap (λ m. get_or s m 0) (omega arith)
+elements_at (suc n) s i (suc k) h = elements_at n s (suc i) k (omega arith) ∙ ap (λ m. get_or s m 0) (omega arith)
 
 pub length-elements : (n : ℕ) (s : List ℕ) (i : ℕ) → length (elements n s i) ≡ n
 length-elements zero s i = refl
 length-elements (suc n) s i = ap suc (length-elements n s (suc i))
 
-pub elements-front : (n : ℕ) (c d : List ℕ) (i : ℕ) → i + n ≤ length c → elements n (c ++ d) i ≡ elements n c i
-elements-front zero c d i h = refl
-elements-front (suc n) c d i h =
-    ap₂ {C = List ℕ} (λ x r. x ∷ r) (get_or-append c d 0 i (omega arith)) (elements-front n c d (suc i) (omega arith))
+pub elements_front : (n : ℕ) (c d : List ℕ) (i : ℕ) → i + n ≤ length c → elements n (c ++ d) i ≡ elements n c i
+elements_front zero c d i h = refl
+elements_front (suc n) c d i h =
+    ap₂ {C = List ℕ} (λ x r. x ∷ r) (get_or-append c d 0 i (omega arith)) (elements_front n c d (suc i) (omega arith))
 
-pub elements-take : (k n : ℕ) (s : List ℕ) (i : ℕ) → k ≤ n → i + k ≤ length s → take k (elements n s i) ≡ take k (drop i s)
-elements-take zero n s i h m = refl
-elements-take (suc k) zero s i h m = absurd (not-suc-le-zero h)
-elements-take (suc k) (suc n) s i h m =
+pub elements_take : (k n : ℕ) (s : List ℕ) (i : ℕ) → k ≤ n → i + k ≤ length s → take k (elements n s i) ≡ take k (drop i s)
+elements_take zero n s i h m = refl
+elements_take (suc k) zero s i h m = absurd (not-suc-le-zero h)
+elements_take (suc k) (suc n) s i h m =
     rw (drop-cons s i 0 (omega arith))
-    (ap {B = List ℕ} (λ r. get_or s i 0 ∷ r) (elements-take k n s (suc i) (omega arith) (omega arith)))
+    (ap {B = List ℕ} (λ r. get_or s i 0 ∷ r) (elements_take k n s (suc i) (omega arith) (omega arith)))
 
-pub elements-past : (n : ℕ) (s : List ℕ) (i k : ℕ) → length s ≤ i + k → get_or (elements n s i) k 0 ≡ 0
-elements-past zero s i k h = refl
-elements-past (suc n) s i zero h = get_or-eq_default s 0 (omega arith)
-elements-past (suc n) s i (suc k) h = elements-past n s (suc i) k (omega arith)
+pub elements_past : (n : ℕ) (s : List ℕ) (i k : ℕ) → length s ≤ i + k → get_or (elements n s i) k 0 ≡ 0
+elements_past zero s i k h = refl
+elements_past (suc n) s i zero h = get_or-eq_default s 0 (omega arith)
+elements_past (suc n) s i (suc k) h = elements_past n s (suc i) k (omega arith)

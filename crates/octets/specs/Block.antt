@@ -3,20 +3,20 @@ use Rattle.std.specs.Prelude.{List, [], ◌∷◌, ◌++◌, ℕ, zero, suc, ◌
 use Rattle.octets.specs.Word.{word_at, bytes_of}
 
 -- the number that eight bytes of a list make, from index i on; past its end a list has zeros
-abbrev pub longAt : List ℕ → ℕ → ℕ
-longAt s i = word_at s i * 2 ^ 32 + word_at s (i + 4)
+abbrev pub long_at : List ℕ → ℕ → ℕ
+long_at s i = word_at s i * 2 ^ 32 + word_at s (i + 4)
 
 -- the number that sixteen bytes of a list make, from index i on
 abbrev pub number_at : List ℕ → ℕ → ℕ
-number_at s i = longAt s i * 2 ^ 64 + longAt s (i + 8)
+number_at s i = long_at s i * 2 ^ 64 + long_at s (i + 8)
 
 -- the sixteen bytes of a number, the highest first
-unfoldable pub blockBytes : ℕ → List ℕ
-blockBytes n = bytes_of (n / 2 ^ 96) ++ bytes_of (n / 2 ^ 64) ++ bytes_of (n / 2 ^ 32) ++ bytes_of n
+unfoldable pub block_bytes : ℕ → List ℕ
+block_bytes n = bytes_of (n / 2 ^ 96) ++ bytes_of (n / 2 ^ 64) ++ bytes_of (n / 2 ^ 32) ++ bytes_of n
 
 -- the sixteen bytes of four lists, four of each
-abbrev pub blockFrom : List ℕ → List ℕ → List ℕ → List ℕ → List ℕ
-blockFrom a b c d =
+abbrev pub block_from : List ℕ → List ℕ → List ℕ → List ℕ → List ℕ
+block_from a b c d =
     get_or a 0 0 ∷ get_or a 1 0 ∷ get_or a 2 0 ∷ get_or a 3 0
     ∷ get_or b 0 0 ∷ get_or b 1 0 ∷ get_or b 2 0 ∷ get_or b 3 0
     ∷ get_or c 0 0 ∷ get_or c 1 0 ∷ get_or c 2 0 ∷ get_or c 3 0
@@ -24,8 +24,8 @@ blockFrom a b c d =
     ∷ []
 
 -- how many blocks n bytes fill, the last one perhaps in part
-abbrev pub blocksFor : ℕ → ℕ
-blocksFor n = (n + 15) / 16
+abbrev pub blocks_for : ℕ → ℕ
+blocks_for n = (n + 15) / 16
 
 -- the first n blocks of a list, as numbers
 unfoldable pub blocks : ℕ → List ℕ → List ℕ
@@ -34,4 +34,4 @@ blocks (suc n) s = number_at s 0 ∷ blocks n (drop 16 s)
 
 -- a list zero-padded to a multiple of 16, as blocks: none for an empty list
 unfoldable pub padded : List ℕ → List ℕ
-padded s = blocks (blocksFor (length s)) s
+padded s = blocks (blocks_for (length s)) s

@@ -1,7 +1,7 @@
 // Bytes, and the big-endian numbers that they make.
 ghost use Rattle.std.specs.Prelude.{◌≡◌, ◌+◌, ◌*◌, ◌^◌, ◌≤◌, min, length};
 ghost use Rattle.std.proofs.Math.Seq.{paste};
-ghost use Rattle.octets.specs.Block.{longAt, blockFrom};
+ghost use Rattle.octets.specs.Block.{long_at, block_from};
 ghost use Rattle.octets.specs.Word.{word_of, word_at, bytes_of};
 
 // The word whose bytes are a, b, c and d, the highest first.
@@ -41,14 +41,14 @@ pub fn long(high: u32, low: u32) -> u64
 // The number that eight bytes of s make, from index `at` on.
 pub fn long_at(s: &[u8], at: usize) -> u64
     requires { at + 8 ≤ length s.now }
-    ensures { result ≡ longAt s.now at }
+    ensures { result ≡ long_at s.now at }
 {
     long(word_at(s, at), word_at(s, at + 4))
 }
 
 // The block of sixteen bytes that a, b, c and d make, one after the other.
 pub fn block_from(a: [u8; 4], b: [u8; 4], c: [u8; 4], d: [u8; 4]) -> [u8; 16]
-    ensures { result ≡ blockFrom a b c d }
+    ensures { result ≡ block_from a b c d }
 {
     [
         a[0], a[1], a[2], a[3], b[0], b[1], b[2], b[3], c[0], c[1], c[2], c[3], d[0], d[1], d[2],

@@ -5,15 +5,15 @@ use Prim.Native.Nat.{ℕ, ◌+◌, ◌<◌}
 use native.Mathlib.Omega.{arith}
 use lib.ListN.{length, get_or}
 use lib.Seq.{take_all}
-use Rattle.octets.proofs.ElementsLaws.{elements-at}
+use Rattle.octets.proofs.ElementsLaws.{elements_at}
 use Rattle.pieces.specs.Piece.{sixteen}
 use Rattle.pieces.proofs.HeldLaws.{sixteen-take}
 
-pub sixteen-at : (s : List ℕ) (i : ℕ) → i < 16 → get_or (sixteen s) i 0 ≡ get_or s i 0
+pub sixteen_at : (s : List ℕ) (i : ℕ) → i < 16 → get_or (sixteen s) i 0 ≡ get_or s i 0
 unfolding sixteen
-sixteen-at s i h =
+sixteen_at s i h =
     let here : 0 + i ≡ i = omega arith in
-    elements-at 16 s 0 i h ∙ ap (λ (j : ℕ). get_or s j 0) here
+    elements_at 16 s 0 i h ∙ ap (λ (j : ℕ). get_or s j 0) here
 
 pub length-sixteen : (s : List ℕ) → length (sixteen s) ≡ 16
 unfolding sixteen

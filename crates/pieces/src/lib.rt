@@ -3,9 +3,9 @@ pub mod block;
 
 ghost use Rattle.std.specs.Prelude.{◌≡◌, ◌++◌, ◌≤◌, ◌<◌, ◌^◌, length, drop};
 ghost use Rattle.sbox.specs.Substitution.{Substitutes};
-ghost use Rattle.aes.specs.Cipher.{encipheredBy};
+ghost use Rattle.aes.specs.Cipher.{enciphered_by};
 ghost use Rattle.hash_field.specs.Element.{value_of};
-ghost use Rattle.pieces.specs.Piece.{ivOf, counterAt, cryptedAt, Absorbed};
+ghost use Rattle.pieces.specs.Piece.{iv_of, counter_at, crypted_at, Absorbed};
 
 use aes::encipher_by;
 use block::sixteen_of;
@@ -17,7 +17,7 @@ use octets::{block_from, bytes, least};
 // The counter block of mark and number after k blocks of text.
 pub fn counter_at(mark: [u8; 4], number: u64, k: usize) -> [u8; 16]
     requires { k < 2 ^ 32 }
-    ensures { result ≡ counterAt (ivOf mark number) k }
+    ensures { result ≡ counter_at (iv_of mark number) k }
 {
     block_from(
         mark,
@@ -41,7 +41,7 @@ pub fn crypt_at(
     requires substitutes { Substitutes table.now }
     requires rounds_bound { (rounds ≤ 14) × (before < 2 ^ 32) }
     requires piece_in_bounds { length piece.now ≤ length out.old }
-    ensures { out.new ≡ cryptedAt (encipheredBy words.now rounds) (ivOf mark number) before piece.now ++ drop (length piece.now) out.old }
+    ensures { out.new ≡ crypted_at (enciphered_by words.now rounds) (iv_of mark number) before piece.now ++ drop (length piece.now) out.old }
 {
     let held = before % 16;
     let counter = counter_at(mark, number, before / 16);

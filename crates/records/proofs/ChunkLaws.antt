@@ -6,74 +6,74 @@ use mathlib.Core.List.{List, [], ◌∷◌, ◌++◌, append_assoc, append-nil}
 use Prim.Native.Nat.{ℕ}
 use lib.Dec.{eqb}
 use Rattle.octets.specs.Bytes.{joined}
-use Rattle.records.specs.Records.{lineFeed, lines_from, restFrom, Answering, answers, outputOf}
-use Rattle.records.specs.Reading.{State, inKey, inIv, inAd, inText, Next, more, whole, step}
+use Rattle.records.specs.Records.{line_feed, lines_from, rest_from, Answering, answers, output_of}
+use Rattle.records.specs.Reading.{State, in_key, in_iv, in_ad, in_text, Next, more, whole, step}
 use Rattle.records.specs.Reading.{start, onward, said, after, written, ending, written_by, scanned, taken_of, left_of}
 
 -- the lines of the record so far that are ended
 ended : State → List (List ℕ)
-ended (inKey line) = []
-ended (inIv key line) = key ∷ []
-ended (inAd key iv line) = key ∷ iv ∷ []
-ended (inText key iv ad line) = key ∷ iv ∷ ad ∷ []
+ended (in_key line) = []
+ended (in_iv key line) = key ∷ []
+ended (in_ad key iv line) = key ∷ iv ∷ []
+ended (in_text key iv ad line) = key ∷ iv ∷ ad ∷ []
 
 -- and the one begun
 begun : State → List ℕ
-begun (inKey line) = line
-begun (inIv key line) = line
-begun (inAd key iv line) = line
-begun (inText key iv ad line) = line
+begun (in_key line) = line
+begun (in_iv key line) = line
+begun (in_ad key iv line) = line
+begun (in_text key iv ad line) = line
 
 -- the output for a state and what is to come
-outputFrom : Answering → State → List ℕ → List ℕ
-outputFrom answer state s = answers answer (ended state ++ lines_from (begun state) s) (restFrom (begun state) s)
+output_from : Answering → State → List ℕ → List ℕ
+output_from answer state s = answers answer (ended state ++ lines_from (begun state) s) (rest_from (begun state) s)
 
 -- one byte: what is said, and the rest from the next state on
-output-more : (answer : Answering) (state : State) (b : ℕ) (s : List ℕ)
-    → outputFrom answer state (b ∷ s) ≡ said answer (step state b) ++ outputFrom answer (onward (step state b)) s
-unfolding outputFrom ended begun lines_from restFrom answers said step onward
-output-more answer state b s = go state (eqb b lineFeed) refl
+output_more : (answer : Answering) (state : State) (b : ℕ) (s : List ℕ)
+    → output_from answer state (b ∷ s) ≡ said answer (step state b) ++ output_from answer (onward (step state b)) s
+unfolding output_from ended begun lines_from rest_from answers said step onward
+output_more answer state b s = go state (eqb b line_feed) refl
   where
-    go : (state : State) (p : Bool) → eqb b lineFeed ≡ p
-        → outputFrom answer state (b ∷ s) ≡ said answer (step state b) ++ outputFrom answer (onward (step state b)) s
-    go (inKey line) true e = rw e
-    go (inKey line) false e = rw e
-    go (inIv key line) true e = rw e
-    go (inIv key line) false e = rw e
-    go (inAd key iv line) true e = rw e
-    go (inAd key iv line) false e = rw e
-    go (inText key iv ad line) true e = rw e
-    go (inText key iv ad line) false e = rw e
+    go : (state : State) (p : Bool) → eqb b line_feed ≡ p
+        → output_from answer state (b ∷ s) ≡ said answer (step state b) ++ output_from answer (onward (step state b)) s
+    go (in_key line) true e = rw e
+    go (in_key line) false e = rw e
+    go (in_iv key line) true e = rw e
+    go (in_iv key line) false e = rw e
+    go (in_ad key iv line) true e = rw e
+    go (in_ad key iv line) false e = rw e
+    go (in_text key iv ad line) true e = rw e
+    go (in_text key iv ad line) false e = rw e
 
-output-end : (answer : Answering) (state : State) → outputFrom answer state [] ≡ ending state
-unfolding outputFrom ended begun lines_from restFrom answers ending
-output-end answer (inKey line) = refl
-output-end answer (inIv key line) = refl
-output-end answer (inAd key iv line) = refl
-output-end answer (inText key iv ad line) = refl
+output_end : (answer : Answering) (state : State) → output_from answer state [] ≡ ending state
+unfolding output_from ended begun lines_from rest_from answers ending
+output_end answer (in_key line) = refl
+output_end answer (in_iv key line) = refl
+output_end answer (in_ad key iv line) = refl
+output_end answer (in_text key iv ad line) = refl
 
 -- what is written for a chunk, and the output from there on
-output-chunk : (answer : Answering) (state : State) (chunk s : List ℕ)
-    → written answer state chunk ++ outputFrom answer (after state chunk) s ≡ outputFrom answer state (chunk ++ s)
+output_chunk : (answer : Answering) (state : State) (chunk s : List ℕ)
+    → written answer state chunk ++ output_from answer (after state chunk) s ≡ output_from answer state (chunk ++ s)
 unfolding written after
-output-chunk answer state [] s = refl
-output-chunk answer state (b ∷ chunk) s =
+output_chunk answer state [] s = refl
+output_chunk answer state (b ∷ chunk) s =
     append_assoc (said answer (step state b)) (written answer (onward (step state b)) chunk) _
-    ∙ ap (λ r. said answer (step state b) ++ r) (output-chunk answer (onward (step state b)) chunk s)
-    ∙ sym (output-more answer state b (chunk ++ s))
+    ∙ ap (λ r. said answer (step state b) ++ r) (output_chunk answer (onward (step state b)) chunk s)
+    ∙ sym (output_more answer state b (chunk ++ s))
 
-from-chunks : (answer : Answering) (state : State) (chunks : List (List ℕ))
-    → written_by answer state chunks ≡ outputFrom answer state (joined chunks)
+from_chunks : (answer : Answering) (state : State) (chunks : List (List ℕ))
+    → written_by answer state chunks ≡ output_from answer state (joined chunks)
 unfolding written_by joined
-from-chunks answer state [] = sym (output-end answer state)
-from-chunks answer state (chunk ∷ chunks) =
-    ap (λ r. written answer state chunk ++ r) (from-chunks answer (after state chunk) chunks)
-    ∙ output-chunk answer state chunk (joined chunks)
+from_chunks answer state [] = sym (output_end answer state)
+from_chunks answer state (chunk ∷ chunks) =
+    ap (λ r. written answer state chunk ++ r) (from_chunks answer (after state chunk) chunks)
+    ∙ output_chunk answer state chunk (joined chunks)
 
 -- However an input is cut into chunks, what is written for them, joined, is the output of the whole.
-pub any-chunks : (answer : Answering) (chunks : List (List ℕ)) → written_by answer start chunks ≡ outputOf answer (joined chunks)
-unfolding outputFrom outputOf ended begun
-any-chunks answer chunks = from-chunks answer start chunks
+pub any_chunks : (answer : Answering) (chunks : List (List ℕ)) → written_by answer start chunks ≡ output_of answer (joined chunks)
+unfolding output_from output_of ended begun
+any_chunks answer chunks = from_chunks answer start chunks
 
 -- a chunk may be cut anywhere
 
@@ -92,9 +92,9 @@ written-append answer state (b ∷ s) t =
 -- the bytes up to the next whole record are one cut of it
 
 module _ (state : State) (b : ℕ) (s : List ℕ) where
-  pub scan-more : (next : State) → step state b ≡ more next → scanned state (b ∷ s) ≡ scanned next s
+  pub scan_more : (next : State) → step state b ≡ more next → scanned state (b ∷ s) ≡ scanned next s
   unfolding scanned
-  scan-more next e = rw (e, scanned)
+  scan_more next e = rw (e, scanned)
 
   pub left-more : (next : State) → step state b ≡ more next → left_of state (b ∷ s) ≡ left_of next s
   unfolding left_of
@@ -104,9 +104,9 @@ module _ (state : State) (b : ℕ) (s : List ℕ) where
   unfolding taken_of
   taken_more next e = rw (e, taken_of)
 
-  pub scan-whole : (k i a t : List ℕ) → step state b ≡ whole k i a t → scanned state (b ∷ s) ≡ whole k i a t
+  pub scan_whole : (k i a t : List ℕ) → step state b ≡ whole k i a t → scanned state (b ∷ s) ≡ whole k i a t
   unfolding scanned
-  scan-whole k i a t e = rw (e, scanned)
+  scan_whole k i a t e = rw (e, scanned)
 
   pub left-whole : (k i a t : List ℕ) → step state b ≡ whole k i a t → left_of state (b ∷ s) ≡ s
   unfolding left_of
@@ -138,9 +138,9 @@ after-taken state (b ∷ s) = go (λ next. after-taken next s) (step state b) re
         ap (after state) (taken_more state b s next e)
         ∙ ap (λ n. after (onward n) (taken_of next s)) e
         ∙ rest next
-        ∙ ap onward (sym (scan-more state b s next e))
+        ∙ ap onward (sym (scan_more state b s next e))
     go rest (whole k i a t) e =
-        ap (after state) (taken-whole state b s k i a t e) ∙ ap onward e ∙ ap onward (sym (scan-whole state b s k i a t e))
+        ap (after state) (taken-whole state b s k i a t e) ∙ ap onward e ∙ ap onward (sym (scan_whole state b s k i a t e))
 
 pub written-taken : (answer : Answering) (state : State) (s : List ℕ)
     → written answer state (taken_of state s) ≡ said answer (scanned state s)
@@ -154,8 +154,8 @@ written-taken answer state (b ∷ s) = go (λ next. written-taken answer next s)
         ap (written answer state) (taken_more state b s next e)
         ∙ ap (λ n. said answer n ++ written answer (onward n) (taken_of next s)) e
         ∙ rest next
-        ∙ ap (said answer) (sym (scan-more state b s next e))
+        ∙ ap (said answer) (sym (scan_more state b s next e))
     go rest (whole k i a t) e =
         ap (written answer state) (taken-whole state b s k i a t e)
         ∙ append-nil (said answer (step state b))
-        ∙ ap (said answer) (e ∙ sym (scan-whole state b s k i a t e))
+        ∙ ap (said answer) (e ∙ sym (scan_whole state b s k i a t e))

@@ -10,17 +10,17 @@ use native.Mathlib.Omega.{arith}
 use lib.ListN.{length, take, length-append}
 use lib.Seq.{take-add, length-take-le}
 use Rattle.octets.specs.Bytes.{joined}
-use Rattle.records.specs.Records.{Answering, outputOf}
+use Rattle.records.specs.Records.{Answering, output_of}
 use Rattle.records.specs.Reading.{more, start, after, written, written_by}
 use Rattle.records.specs.Answers.{Wrote}
-use Rattle.records.specs.Kept.{freshMachine, lastLine}
-use Rattle.records.specs.Remembered.{FieldBuffers, Remembers, bytesFrom, Served}
-use Rattle.records.specs.Input.{Answered, mostTurns, TakenIn, Ended}
+use Rattle.records.specs.Kept.{fresh_machine, last_line}
+use Rattle.records.specs.Remembered.{FieldBuffers, Remembers, bytes_from, Served}
+use Rattle.records.specs.Input.{Answered, most_turns, TakenIn, Ended}
 use Rattle.records.specs.declared.machine.Machine.{Machine}
-use Rattle.records.proofs.AnswerLaws.{wrote-line}
-use Rattle.records.proofs.ChunkLaws.{any-chunks, after-append, written-append}
+use Rattle.records.proofs.AnswerLaws.{wrote_line}
+use Rattle.records.proofs.ChunkLaws.{any_chunks, after-append, written-append}
 use Rattle.records.proofs.ScanLaws.{remembers-start}
-use Rattle.records.proofs.ServeLaws.{ending-remembered}
+use Rattle.records.proofs.ServeLaws.{ending_remembered}
 
 joined-more : (chunks : List (List ℕ)) (chunk : List ℕ) → joined (chunks ++ (chunk ∷ [])) ≡ joined chunks ++ chunk
 unfolding joined
@@ -47,20 +47,20 @@ pub record Carried (answer : Answering) (turns : ℕ) (buffer : List ℕ) (m : M
   pub latest : take (length (last_of taken.chunks)) buffer ≡ last_of taken.chunks
 
 module _ (answer : Answering) where
-  pub answered-nothing : {m : Machine} {key iv ad text : List ℕ} → Answered answer m key iv ad text [] m key iv ad text
+  pub answered_nothing : {m : Machine} {key iv ad text : List ℕ} → Answered answer m key iv ad text [] m key iv ad text
   unfolding after written
-  answered-nothing = record { handed = []; follows = λ state known. known; answers = λ state known. refl }
+  answered_nothing = record { handed = []; follows = λ state known. known; answers = λ state known. refl }
 
   -- a service behind what was taken in of its chunk before, and all that it wrote handed out
-  pub answered-then : {m m' m'' : Machine} {key iv ad text key' iv' ad' text' key'' iv'' ad'' text'' out out' : List ℕ}
+  pub answered_then : {m m' m'' : Machine} {key iv ad text key' iv' ad' text' key'' iv'' ad'' text'' out out' : List ℕ}
       {count given : ℕ} (chunk : List ℕ) (at end : ℕ)
       → Answered answer m key iv ad text (take at chunk) m' key' iv' ad' text'
       → Served answer m' key' iv' ad' text' chunk at out m'' key'' iv'' ad'' text'' end out' count
       → given ≡ length (take count out')
       → Answered answer m key iv ad text (take end chunk) m'' key'' iv'' ad'' text''
-  answered-then {out' = out'} {count = count} {given = given} chunk at end first next all =
+  answered_then {out' = out'} {count = count} {given = given} chunk at end first next all =
       let part = take at chunk in
-      let service = bytesFrom chunk at end in
+      let service = bytes_from chunk at end in
       let there : at + (end - at) ≡ end = omega (arith, next.reached) in
       let bytes : take end chunk ≡ part ++ service = ap (λ n. take n chunk) (sym there) ∙ take-add at (end - at) chunk in
       let line : take given out' ≡ take count out' = ap (λ n. take n out') (all ∙ length-take-le count out' next.fits) in
@@ -72,20 +72,20 @@ module _ (answer : Answering) where
             rw (bytes, written-append answer state part service)
             (ap₂ ◌++◌
             (first.answers state known)
-            (line ∙ wrote-line (next.writes (after state part) (first.follows state known))));
+            (line ∙ wrote_line (next.writes (after state part) (first.follows state known))));
       }
 
   -- a run is begun with the machine in front of a record
-  pub carried-start : (buffer key iv ad text : List ℕ) → FieldBuffers key iv ad text
-      → Carried answer mostTurns buffer freshMachine key iv ad text
+  pub carried_start : (buffer key iv ad text : List ℕ) → FieldBuffers key iv ad text
+      → Carried answer most_turns buffer fresh_machine key iv ad text
   unfolding after written joined last_of
-  carried-start buffer key iv ad text room =
+  carried_start buffer key iv ad text room =
       record {
         taken =
             record {
               chunks = [];
               handed = [];
-              none-empty = λ chunk none. absurd (Memᴰ.not-nil none);
+              none_empty = λ chunk none. absurd (Memᴰ.not-nil none);
               counted = refl;
               answers = refl;
             };
@@ -103,8 +103,8 @@ module _ (answer : Answering) where
           record {
             chunks = taken.chunks ++ (bytes ∷ []);
             handed = taken.handed ++ next.handed;
-            none-empty = λ chunk member.
-                ⊎_elim (taken.none-empty chunk)
+            none_empty = λ chunk member.
+                ⊎_elim (taken.none_empty chunk)
                 (λ one. omega (arith, ap length (Memᴰ.eq_of_singleton one)))
                 (Memᴰ.append_cases taken.chunks member);
             counted = simp length-append (omega (arith, taken.counted));
@@ -113,10 +113,10 @@ module _ (answer : Answering) where
                 (ap₂ ◌++◌ taken.answers (next.answers _ was.remembers));
           }
 
-      pub carried-then : (read : List ℕ) → take (length bytes) read ≡ bytes
+      pub carried_then : (read : List ℕ) → take (length bytes) read ≡ bytes
           → Carried answer (turns - 1) read m' key' iv' ad' text'
       unfolding taken_then
-      carried-then read front =
+      carried_then read front =
           let before = was.taken.chunks in
           record {
             taken = taken_then;
@@ -126,7 +126,7 @@ module _ (answer : Answering) where
           }
 
     -- the input ends, and what remains of it is answered
-    pub ended-whole : {failed : Bool} {before out : List ℕ} {count : ℕ} → Wrote (lastLine m) before out count
+    pub ended-whole : {failed : Bool} {before out : List ℕ} {count : ℕ} → Wrote (last_line m) before out count
         → Ended answer turns count failed false out
     unfolding written_by joined
     ended-whole wrote =
@@ -134,14 +134,14 @@ module _ (answer : Answering) where
         record {
           taken = was.taken;
           whole = λ fine read left.
-              ap₂ ◌++◌ was.taken.answers (wrote-line wrote ∙ sym (ending-remembered _ was.remembers))
-              ∙ any-chunks answer (input ∷ [])
-              ∙ ap (outputOf answer) (append-nil input);
-          nothing-last = λ unread. absurd (false≢true unread);
+              ap₂ ◌++◌ was.taken.answers (wrote_line wrote ∙ sym (ending_remembered _ was.remembers))
+              ∙ any_chunks answer (input ∷ [])
+              ∙ ap (output_of answer) (append-nil input);
+          nothing_last = λ unread. absurd (false≢true unread);
         }
 
   -- it is over before: a write or a read failed, or no turn is left
-  pub ended-before : {turns : ℕ} {failed unread : Bool} {out : List ℕ} → TakenIn answer turns
+  pub ended_before : {turns : ℕ} {failed unread : Bool} {out : List ℕ} → TakenIn answer turns
       → (failed ≡ false → unread ≡ false → 0 < turns → ⊥) → Ended answer turns 0 failed unread out
-  ended-before taken early =
-      record { taken = taken; whole = λ fine read left. absurd (early fine read left); nothing-last = λ unread. refl }
+  ended_before taken early =
+      record { taken = taken; whole = λ fine read left. absurd (early fine read left); nothing_last = λ unread. refl }

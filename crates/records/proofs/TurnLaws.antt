@@ -10,24 +10,24 @@ use lib.Seq.{take-add, drop-drop, drop_at}
 use Rattle.records.specs.Records.{Answering}
 use Rattle.records.specs.Reading.{after, written}
 use Rattle.records.specs.Answers.{Wrote}
-use Rattle.records.specs.Remembered.{bytesFrom, Served}
+use Rattle.records.specs.Remembered.{bytes_from, Served}
 use Rattle.records.specs.declared.machine.Machine.{Machine}
-use Rattle.records.proofs.AnswerLaws.{wrote_nothing, wrote-line}
+use Rattle.records.proofs.AnswerLaws.{wrote_nothing, wrote_line}
 use Rattle.records.proofs.ChunkLaws.{after-append, written-append}
 
-bytes-none : (chunk : List ℕ) (at : ℕ) → bytesFrom chunk at at ≡ []
-bytes-none chunk at =
+bytes_none : (chunk : List ℕ) (at : ℕ) → bytes_from chunk at at ≡ []
+bytes_none chunk at =
     let none : at - at ≡ 0 = omega arith in
     rw none
 
-bytes-then : (chunk : List ℕ) (at mid end : ℕ) → at ≤ mid → mid ≤ end
-    → bytesFrom chunk at end ≡ bytesFrom chunk at mid ++ bytesFrom chunk mid end
-bytes-then chunk at mid end first second =
+bytes_then : (chunk : List ℕ) (at mid end : ℕ) → at ≤ mid → mid ≤ end
+    → bytes_from chunk at end ≡ bytes_from chunk at mid ++ bytes_from chunk mid end
+bytes_then chunk at mid end first second =
     let both : end - at ≡ (mid - at) + (end - mid) = omega arith in
     let there : at + (mid - at) ≡ mid = omega arith in
     rw both
     (take-add (mid - at) (end - mid) (drop at chunk)
-    ∙ ap (λ s. bytesFrom chunk at mid ++ take (end - mid) s) (drop-drop (mid - at) at chunk ∙ ap (λ n. drop n chunk) there))
+    ∙ ap (λ s. bytes_from chunk at mid ++ take (end - mid) s) (drop-drop (mid - at) at chunk ∙ ap (λ n. drop n chunk) there))
 
 -- a line written behind another
 wrote_then : {line next was now now' : List ℕ} {count extra : ℕ} → Wrote line was now count
@@ -39,34 +39,34 @@ wrote_then {line} {next} {was} {now} {now'} {count} {extra} first second kept =
       counts = ap₂ (λ a b. a + b) first.counts second.counts ∙ sym (length-append line next);
       front =
           sym (take-append-drop count now')
-          ∙ ap₂ (λ a b. a ++ b) (kept ∙ wrote-line first) (second.front ∙ ap (λ s. next ++ drop (length next) s) behind)
+          ∙ ap₂ (λ a b. a ++ b) (kept ∙ wrote_line first) (second.front ∙ ap (λ s. next ++ drop (length next) s) behind)
           ∙ ap (λ s. line ++ (next ++ s)) (drop-drop (length next) (length line) was ∙ ap (λ n. drop n was) (sym (length-append line next)))
           ∙ sym (append_assoc line next (drop (length (line ++ next)) was));
     }
 
 module _ (answer : Answering) {m : Machine} {key iv ad text : List ℕ} (chunk : List ℕ) (at : ℕ) (out : List ℕ) where
   -- nothing taken in yet
-  pub served-nothing : Served answer m key iv ad text chunk at out m key iv ad text at out 0
+  pub served_nothing : Served answer m key iv ad text chunk at out m key iv ad text at out 0
   unfolding after written
-  served-nothing =
+  served_nothing =
       record {
-        remembers = λ state known. rw (bytes-none chunk at) known;
-        writes = λ state known. rw (bytes-none chunk at) (wrote_nothing out);
+        remembers = λ state known. rw (bytes_none chunk at) known;
+        writes = λ state known. rw (bytes_none chunk at) (wrote_nothing out);
         fits = zero-le;
         reached = le_refl at;
         within = λ h. h;
       }
 
   -- a service behind another
-  pub served-then : {m' m'' : Machine} {key' iv' ad' text' key'' iv'' ad'' text'' out' out'' : List ℕ} {mid end count extra : ℕ}
+  pub served_then : {m' m'' : Machine} {key' iv' ad' text' key'' iv'' ad'' text'' out' out'' : List ℕ} {mid end count extra : ℕ}
       → Served answer m key iv ad text chunk at out m' key' iv' ad' text' mid out' count
       → Served answer m' key' iv' ad' text' chunk mid (drop count out') m'' key'' iv'' ad'' text'' end (drop count out'') extra
       → take count out'' ≡ take count out' → count ≤ length out''
       → Served answer m key iv ad text chunk at out m'' key'' iv'' ad'' text'' end out'' (count + extra)
-  served-then {mid = mid} {end = end} first second kept inside =
-      let bytes = bytes-then chunk at mid end first.reached second.reached in
-      let part = bytesFrom chunk at mid in
-      let next = bytesFrom chunk mid end in
+  served_then {mid = mid} {end = end} first second kept inside =
+      let bytes = bytes_then chunk at mid end first.reached second.reached in
+      let part = bytes_from chunk at mid in
+      let next = bytes_from chunk mid end in
       record {
         remembers = λ state known. rw (bytes, after-append state part next) (second.remembers (after state part) (first.remembers state known));
         writes = λ state known.

@@ -2,7 +2,7 @@
 use Rattle.std.specs.Prelude.{◌≡◌, Bool, false, true, ℕ, ◌+◌, ◌<◌, length, take}
 use mathlib.Core.List.{List, ◌++◌, Memᴰ}
 use Rattle.octets.specs.Bytes.{joined}
-use Rattle.records.specs.Records.{Answering, outputOf}
+use Rattle.records.specs.Records.{Answering, output_of}
 use Rattle.records.specs.Reading.{State, more, start, after, written}
 use Rattle.records.specs.Remembered.{Remembers, Followed}
 use Rattle.records.specs.declared.machine.Machine.{Machine}
@@ -20,16 +20,16 @@ pub record Answered
   pub answers : (state : State) → Remembers m key iv ad text (more state) → handed ≡ written answer state bytes
 
 -- as many turns as a run has
-abbrev pub mostTurns : ℕ
-mostTurns = 18446744073709551615
+abbrev pub most_turns : ℕ
+most_turns = 18446744073709551615
 
 -- a run so far, with so many turns left: the chunks that were taken in, one at each turn and none of them empty, and what was
 -- handed out for them, which is what they are answered by
 pub record TakenIn (answer : Answering) (turns : ℕ) : Type 0 where
   pub chunks : List (List ℕ)
   pub handed : List ℕ
-  pub none-empty : (chunk : List ℕ) → Memᴰ chunk chunks → 0 < length chunk
-  pub counted : length chunks + turns ≡ mostTurns
+  pub none_empty : (chunk : List ℕ) → Memᴰ chunk chunks → 0 < length chunk
+  pub counted : length chunks + turns ≡ most_turns
   pub answers : handed ≡ written answer start (joined chunks)
 
 -- A run that is over. Where no write and no read failed and a turn is left, the input ended there: what was handed out for the
@@ -38,5 +38,5 @@ pub record TakenIn (answer : Answering) (turns : ℕ) : Type 0 where
 pub record Ended (answer : Answering) (turns last : ℕ) (failed unread : Bool) (out : List ℕ) : Type 0 where
   pub taken : TakenIn answer turns
   pub whole : failed ≡ false → unread ≡ false → 0 < turns
-      → taken.handed ++ take last out ≡ outputOf answer (joined taken.chunks)
-  pub nothing-last : unread ≡ true → last ≡ 0
+      → taken.handed ++ take last out ≡ output_of answer (joined taken.chunks)
+  pub nothing_last : unread ≡ true → last ≡ 0

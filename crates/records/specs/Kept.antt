@@ -1,16 +1,16 @@
 -- What the machine of the code keeps of a record, and what one byte makes of it and of the buffers.
 use Rattle.std.specs.Prelude.{◌≡◌, Bool, true, not, ◌&&◌, ◌||◌, cond, List, [], ℕ, ◌/◌, min, eqb}
-use Rattle.hex.specs.Line.{freshLine, fed, stored, endsGood}
-use Rattle.records.specs.Records.{lineFeed, cutLine}
-use Rattle.hex.specs.declared.line.Line.{Line}
+use Rattle.hexadecimal.specs.Line.{fresh_line, fed, stored, ends_good}
+use Rattle.records.specs.Records.{line_feed, cut_line}
+use Rattle.hexadecimal.specs.declared.line.Line.{Line}
 use Rattle.records.specs.declared.machine.Machine.{Machine}
 
 -- the machine in front of a record
-abbrev pub freshMachine : Machine
-freshMachine = record { lines = 0; good = true; key = 0; iv = 0; ad = 0; text = 0; line = freshLine }
+abbrev pub fresh_machine : Machine
+fresh_machine = record { lines = 0; good = true; key = 0; iv = 0; ad = 0; text = 0; line = fresh_line }
 
-abbrev pub withLine : Machine → Line → Machine
-withLine m next =
+abbrev pub with_line : Machine → Line → Machine
+with_line m next =
     record {
       lines = m.lines;
       good = m.good;
@@ -26,39 +26,39 @@ abbrev pub field_of : Machine → ℕ
 field_of m = min m.lines 3
 
 -- the line at hand is ended: its bytes are counted for its field
-unfoldable pub lineEnded : Machine → Machine
-lineEnded m =
-    let good = m.good && endsGood m.line in
+unfoldable pub line_ended : Machine → Machine
+line_ended m =
+    let good = m.good && ends_good m.line in
     let n = m.line.digits / 2 in
     cond (eqb (field_of m) 0)
-    (record { lines = 1; good = good; key = n; iv = 0; ad = 0; text = 0; line = freshLine })
+    (record { lines = 1; good = good; key = n; iv = 0; ad = 0; text = 0; line = fresh_line })
     (cond (eqb (field_of m) 1)
-    (record { lines = 2; good = good; key = m.key; iv = n; ad = 0; text = 0; line = freshLine })
+    (record { lines = 2; good = good; key = m.key; iv = n; ad = 0; text = 0; line = fresh_line })
     (cond (eqb (field_of m) 2)
-    (record { lines = 3; good = good; key = m.key; iv = m.iv; ad = n; text = 0; line = freshLine })
-    (record { lines = 4; good = good; key = m.key; iv = m.iv; ad = m.ad; text = n; line = freshLine })))
+    (record { lines = 3; good = good; key = m.key; iv = m.iv; ad = n; text = 0; line = fresh_line })
+    (record { lines = 4; good = good; key = m.key; iv = m.iv; ad = m.ad; text = n; line = fresh_line })))
 
 -- something was read of a record that is not whole
 unfoldable pub remaining : Machine → Bool
 remaining m = not (eqb m.lines 0) || (m.line.spoiled || not (eqb m.line.digits 0))
 
 -- what is written where the input ends there
-abbrev pub lastLine : Machine → List ℕ
-lastLine m = cond (remaining m) cutLine []
+abbrev pub last_line : Machine → List ℕ
+last_line m = cond (remaining m) cut_line []
 
 -- the machine with one byte more
-unfoldable pub byteTaken : Machine → ℕ → Machine
-byteTaken m b = cond (eqb b lineFeed) (lineEnded m) (withLine m (fed m.line b))
+unfoldable pub byte_taken : Machine → ℕ → Machine
+byte_taken m b = cond (eqb b line_feed) (line_ended m) (with_line m (fed m.line b))
 
 -- the buffer of a field then
-unfoldable pub byteStored : ℕ → Machine → ℕ → List ℕ → List ℕ
-byteStored field m b bytes =
-    cond (eqb b lineFeed) bytes (cond (eqb (field_of m) field) (stored m.line b bytes) bytes)
+unfoldable pub byte_stored : ℕ → Machine → ℕ → List ℕ → List ℕ
+byte_stored field m b bytes =
+    cond (eqb b line_feed) bytes (cond (eqb (field_of m) field) (stored m.line b bytes) bytes)
 
 -- one byte, taken by the machine and put into the buffers
 pub record Took (m : Machine) (b : ℕ) (key iv ad text : List ℕ) (m' : Machine) (key' iv' ad' text' : List ℕ) : Type 0 where
-  pub machine : m' ≡ byteTaken m b
-  pub toKey : key' ≡ byteStored 0 m b key
-  pub toIv : iv' ≡ byteStored 1 m b iv
-  pub toAd : ad' ≡ byteStored 2 m b ad
-  pub toText : text' ≡ byteStored 3 m b text
+  pub machine : m' ≡ byte_taken m b
+  pub to_key : key' ≡ byte_stored 0 m b key
+  pub to_iv : iv' ≡ byte_stored 1 m b iv
+  pub to_ad : ad' ≡ byte_stored 2 m b ad
+  pub to_text : text' ≡ byte_stored 3 m b text

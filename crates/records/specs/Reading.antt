@@ -1,13 +1,13 @@
 -- The records of an input, taken in byte by byte.
 use Rattle.std.specs.Prelude.{cond, List, [], ◌∷◌, ◌++◌, ℕ, eqb}
-use Rattle.records.specs.Records.{lineFeed, Answering, answerTo, cutLine, cut_of}
+use Rattle.records.specs.Records.{line_feed, Answering, answer_to, cut_line, cut_of}
 
 -- what was read of a record that is not whole: the lines that are ended, and the one begun
 pub data State : Type 0 where
-  inKey : (line : List ℕ) → State
-  inIv : (key line : List ℕ) → State
-  inAd : (key iv line : List ℕ) → State
-  inText : (key iv ad line : List ℕ) → State
+  in_key : (line : List ℕ) → State
+  in_iv : (key line : List ℕ) → State
+  in_ad : (key iv line : List ℕ) → State
+  in_text : (key iv ad line : List ℕ) → State
 
 -- what one byte more makes of it
 pub data Next : Type 0 where
@@ -15,13 +15,13 @@ pub data Next : Type 0 where
   whole : (key iv ad text : List ℕ) → Next
 
 unfoldable pub step : State → ℕ → Next
-step (inKey line) b = cond (eqb b lineFeed) (more (inIv line [])) (more (inKey (line ++ (b ∷ []))))
-step (inIv key line) b = cond (eqb b lineFeed) (more (inAd key line [])) (more (inIv key (line ++ (b ∷ []))))
-step (inAd key iv line) b = cond (eqb b lineFeed) (more (inText key iv line [])) (more (inAd key iv (line ++ (b ∷ []))))
-step (inText key iv ad line) b = cond (eqb b lineFeed) (whole key iv ad line) (more (inText key iv ad (line ++ (b ∷ []))))
+step (in_key line) b = cond (eqb b line_feed) (more (in_iv line [])) (more (in_key (line ++ (b ∷ []))))
+step (in_iv key line) b = cond (eqb b line_feed) (more (in_ad key line [])) (more (in_iv key (line ++ (b ∷ []))))
+step (in_ad key iv line) b = cond (eqb b line_feed) (more (in_text key iv line [])) (more (in_ad key iv (line ++ (b ∷ []))))
+step (in_text key iv ad line) b = cond (eqb b line_feed) (whole key iv ad line) (more (in_text key iv ad (line ++ (b ∷ []))))
 
 abbrev pub start : State
-start = inKey []
+start = in_key []
 
 -- where reading goes on
 unfoldable pub onward : Next → State
@@ -31,7 +31,7 @@ onward (whole key iv ad text) = start
 -- what is written then
 unfoldable pub said : Answering → Next → List ℕ
 said answer (more state) = []
-said answer (whole key iv ad text) = answerTo answer key iv ad text
+said answer (whole key iv ad text) = answer_to answer key iv ad text
 
 -- where reading goes on behind a chunk of the input
 unfoldable pub after : State → List ℕ → State
@@ -45,10 +45,10 @@ written answer state (b ∷ s) = said answer (step state b) ++ written answer (o
 
 -- what is written where the input ends
 unfoldable pub ending : State → List ℕ
-ending (inKey line) = cut_of line
-ending (inIv key line) = cutLine
-ending (inAd key iv line) = cutLine
-ending (inText key iv ad line) = cutLine
+ending (in_key line) = cut_of line
+ending (in_iv key line) = cut_line
+ending (in_ad key iv line) = cut_line
+ending (in_text key iv ad line) = cut_line
 
 -- what is written for chunk after chunk, and at the end
 unfoldable pub written_by : Answering → State → List (List ℕ) → List ℕ

@@ -1,19 +1,19 @@
 -- What the machine of the code and its buffers remember of the input that was read.
 use Rattle.std.specs.Prelude.{◌≡◌, Bool, true, ◌&&◌, List, [], ℕ, ◌-◌, ◌≤◌, ◌<◌, length, take, drop}
-use Rattle.hex.specs.Hex.{goodLine, longestField}
-use Rattle.hex.specs.Line.{line_of, InFront, Counted}
+use Rattle.hexadecimal.specs.Hex.{good_line, longest_field}
+use Rattle.hexadecimal.specs.Line.{line_of, InFront, Counted}
 use Rattle.records.specs.Answers.{Wrote}
 use Rattle.records.specs.Records.{Answering}
-use Rattle.records.specs.Reading.{State, inKey, inIv, inAd, inText, Next, more, whole, after, written, scanned, left_of}
+use Rattle.records.specs.Reading.{State, in_key, in_iv, in_ad, in_text, Next, more, whole, after, written, scanned, left_of}
 use Rattle.records.specs.declared.machine.Machine.{Machine}
 use Rattle.records.specs.declared.machine.Stop.{Stop}
 
 -- each buffer has room for a field
 pub record FieldBuffers (key iv ad text : List ℕ) : Type 0 where
-  pub forKey : longestField ≤ length key
-  pub forIv : longestField ≤ length iv
-  pub forAd : longestField ≤ length ad
-  pub forText : longestField ≤ length text
+  pub for_key : longest_field ≤ length key
+  pub for_iv : longest_field ≤ length iv
+  pub for_ad : longest_field ≤ length ad
+  pub for_text : longest_field ≤ length text
 
 -- so many lines are ended, those are good or not, and this one is begun
 pub record At (m : Machine) (count : ℕ) (fine : Bool) (begun : List ℕ) : Type 0 where
@@ -22,18 +22,18 @@ pub record At (m : Machine) (count : ℕ) (fine : Bool) (begun : List ℕ) : Typ
   pub begins : m.line ≡ line_of begun
 
 abbrev pub Reads : Machine → List ℕ → List ℕ → List ℕ → List ℕ → Next → Type 0
-Reads m key iv ad text (more (inKey l)) = At m 0 true l × InFront l key
-Reads m key iv ad text (more (inIv k l)) = At m 1 (goodLine k) l × Counted m.key key k × InFront l iv
-Reads m key iv ad text (more (inAd k i l)) =
-    At m 2 (goodLine k && goodLine i) l × Counted m.key key k × Counted m.iv iv i × InFront l ad
-Reads m key iv ad text (more (inText k i a l)) =
-    At m 3 (goodLine k && goodLine i && goodLine a) l
+Reads m key iv ad text (more (in_key l)) = At m 0 true l × InFront l key
+Reads m key iv ad text (more (in_iv k l)) = At m 1 (good_line k) l × Counted m.key key k × InFront l iv
+Reads m key iv ad text (more (in_ad k i l)) =
+    At m 2 (good_line k && good_line i) l × Counted m.key key k × Counted m.iv iv i × InFront l ad
+Reads m key iv ad text (more (in_text k i a l)) =
+    At m 3 (good_line k && good_line i && good_line a) l
     × Counted m.key key k
     × Counted m.iv iv i
     × Counted m.ad ad a
     × InFront l text
 Reads m key iv ad text (whole k i a t) =
-    At m 4 (goodLine k && goodLine i && goodLine a && goodLine t) []
+    At m 4 (good_line k && good_line i && good_line a && good_line t) []
     × Counted m.key key k
     × Counted m.iv iv i
     × Counted m.ad ad a
@@ -55,8 +55,8 @@ pub record Scanned (m : Machine) (key iv ad text chunk : List ℕ) (at : ℕ) (r
   pub within : at ≤ length chunk → r.at ≤ length chunk
 
 -- the bytes of a chunk from one index up to another
-abbrev pub bytesFrom : List ℕ → ℕ → ℕ → List ℕ
-bytesFrom chunk at end = take (end - at) (drop at chunk)
+abbrev pub bytes_from : List ℕ → ℕ → ℕ → List ℕ
+bytes_from chunk at end = take (end - at) (drop at chunk)
 
 -- whatever the machine remembered before, it remembers now with these bytes behind it
 abbrev pub Followed
@@ -77,9 +77,9 @@ pub record Served
     (end : ℕ)
     (out' : List ℕ)
     (count : ℕ) : Type 0 where
-  pub remembers : Followed m key iv ad text (bytesFrom chunk at end) m' key' iv' ad' text'
+  pub remembers : Followed m key iv ad text (bytes_from chunk at end) m' key' iv' ad' text'
   pub writes : (state : State) → Remembers m key iv ad text (more state)
-      → Wrote (written answer state (bytesFrom chunk at end)) out out' count
+      → Wrote (written answer state (bytes_from chunk at end)) out out' count
   pub fits : count ≤ length out'
   pub reached : at ≤ end
   pub within : at ≤ length chunk → end ≤ length chunk

@@ -1,9 +1,9 @@
 // Records of four lines, taken in byte by byte.
 ghost use Rattle.std.specs.Prelude.{◌≡◌, ◌&&◌};
-ghost use Rattle.records.specs.Kept.{freshMachine, withLine, remaining, lineEnded, Took};
+ghost use Rattle.records.specs.Kept.{fresh_machine, with_line, remaining, line_ended, Took};
 ghost use Rattle.records.specs.Remembered.{Scanned};
 
-use hex::line::{Line, ends_good, feed, fresh};
+use hexadecimal::line::{Line, ends_good, feed, fresh};
 
 // What is kept of a record while it is read: how many of its lines are ended, whether those are good, how many bytes each of
 // them stands for, and the line at hand. The bytes are in four buffers beside it. With four lines ended the record is whole.
@@ -27,7 +27,7 @@ pub struct Stop {
 
 // The machine in front of a record.
 pub fn ready() -> Machine
-    ensures { result ≡ freshMachine }
+    ensures { result ≡ fresh_machine }
 {
     Machine {
         lines: 0,
@@ -111,7 +111,7 @@ pub fn take_byte(
 
 // The machine with another line at hand.
 fn with_line(m: Machine, line: Line) -> Machine
-    ensures { result ≡ withLine m line }
+    ensures { result ≡ with_line m line }
 {
     Machine {
         lines: m.lines,
@@ -126,7 +126,7 @@ fn with_line(m: Machine, line: Line) -> Machine
 
 // The line at hand is ended.
 fn end_line(m: Machine) -> Machine
-    ensures { result ≡ lineEnded m }
+    ensures { result ≡ line_ended m }
 {
     let line = m.line;
     let good = both(m.good, ends_good(line));

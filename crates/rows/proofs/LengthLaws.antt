@@ -9,38 +9,38 @@ use native.Mathlib.Omega.{arith}
 use borrow.Author.Tests.{ltb-false, eqb-true}
 use lib.Dec.{eqb, ltb}
 use lib.ListN.{length}
-use Rattle.answer.proofs.DoneLaws.{was-refused, was-done}
+use Rattle.answer.proofs.DoneLaws.{was_refused, was_done}
 use Rattle.rows.specs.Passed.{Passed}
-use Rattle.rows.specs.Rows.{longestIv, longestAd, longestText, keyBad, ivBad, tagBad, lowest, lengthRows, sealRows, openLengthRows}
-use Rattle.rows.proofs.RowsLaws.{lowest-none}
+use Rattle.rows.specs.Rows.{longest_iv, longest_ad, longest_text, key_bad, iv_bad, tag_bad, lowest, length_rows, seal_rows, open_length_rows}
+use Rattle.rows.proofs.RowsLaws.{lowest_none}
 
 -- a row of the first list answers for both
-first-answers : (n : ℕ) (a b : List Bool) → 0 < lowest n a → lowest n (a ++ b) ≡ lowest n a
+first_answers : (n : ℕ) (a b : List Bool) → 0 < lowest n a → lowest n (a ++ b) ≡ lowest n a
 unfolding lowest
-first-answers n [] b some = absurd (omega arith)
-first-answers n (true ∷ a) b some = refl
-first-answers n (false ∷ a) b some = first-answers (suc n) a b some
+first_answers n [] b some = absurd (omega arith)
+first_answers n (true ∷ a) b some = refl
+first_answers n (false ∷ a) b some = first_answers (suc n) a b some
 
 -- where no row of the first list holds, the second answers
-pub second-answers : (n : ℕ) (a b : List Bool) → lowest (suc n) a ≡ 0 → lowest (suc n) (a ++ b) ≡ lowest (length a + suc n) b
+pub second_answers : (n : ℕ) (a b : List Bool) → lowest (suc n) a ≡ 0 → lowest (suc n) (a ++ b) ≡ lowest (length a + suc n) b
 unfolding lowest
-second-answers n [] b none = rw zero-add
-second-answers n (true ∷ a) b none = absurd (omega arith)
-second-answers n (false ∷ a) b none = second-answers (suc n) a b none ∙ ap (λ m. lowest m b) (add-suc (length a) (suc n) ∙ sym (suc-add (length a) (suc n)))
+second_answers n [] b none = rw zero-add
+second_answers n (true ∷ a) b none = absurd (omega arith)
+second_answers n (false ∷ a) b none = second_answers (suc n) a b none ∙ ap (λ m. lowest m b) (add-suc (length a) (suc n) ∙ sym (suc-add (length a) (suc n)))
 
 module _ (rows more : List Bool) {a : ℕ} {done : Bool} (answer : a ≡ lowest 1 rows) (is-done : done ≡ eqb a 0) where
   -- the shared rows refused: theirs is the answer to all rows
   pub refused : not done ≡ true → a ≡ lowest 1 (rows ++ more)
   refused refusing =
-      let some : 0 < lowest 1 rows = omega (arith, was-refused a is-done refusing) in
-      answer ∙ sym (first-answers 1 rows more some)
+      let some : 0 < lowest 1 rows = omega (arith, was_refused a is-done refusing) in
+      answer ∙ sym (first_answers 1 rows more some)
 
   -- the shared rows let pass: the others answer
   pub passed_on : not done ≡ false → lowest 1 (rows ++ more) ≡ lowest (length rows + 1) more
-  passed_on passing = second-answers 0 rows more (was-done (lowest 1 rows) answer is-done passing)
+  passed_on passing = second_answers 0 rows more (was_done (lowest 1 rows) answer is-done passing)
 
-pub key_fits : (n : ℕ) → keyBad n ≡ false → (16 ≤ n) × (n ≤ 32)
-unfolding keyBad
+pub key_fits : (n : ℕ) → key_bad n ≡ false → (16 ≤ n) × (n ≤ 32)
+unfolding key_bad
 key_fits n good = go (eqb n 16) (eqb n 32) refl refl good
   where
     go : (a b : Bool) → eqb n 16 ≡ a → eqb n 32 ≡ b → (not a && not b) ≡ false → (16 ≤ n) × (n ≤ 32)
@@ -58,31 +58,31 @@ within n low high good = go (ltb n low) (ltb high n) refl good
     go false false f good = ltb-false high n f
 
 -- what lengths that no row refuses may be relied on for, whatever rows come after
-pub passed : (key iv ad text tag : ℕ) (more : List Bool) → lowest 1 (lengthRows key iv ad text tag ++ more) ≡ 0 → Passed key iv ad text tag
-unfolding ivBad tagBad
+pub passed : (key iv ad text tag : ℕ) (more : List Bool) → lowest 1 (length_rows key iv ad text tag ++ more) ≡ 0 → Passed key iv ad text tag
+unfolding iv_bad tag_bad
 passed key iv ad text tag more none =
-    let no = (lowest-none (lengthRows key iv ad text tag ++ more) refl).0 none in
+    let no = (lowest_none (length_rows key iv ad text tag ++ more) refl).0 none in
     record {
-      short-key = (key_fits key (no 0)).0;
-      long-key = (key_fits key (no 0)).1;
+      short_key = (key_fits key (no 0)).0;
+      long_key = (key_fits key (no 0)).1;
       rest = record {
-        long-iv = within iv 1 longestIv (no 1);
-        long-ad = ltb-false longestAd ad (no 3);
-        long-text = ltb-false longestText text (no 4);
-        long-tag = within tag 12 16 (no 2);
+        long_iv = within iv 1 longest_iv (no 1);
+        long_ad = ltb-false longest_ad ad (no 3);
+        long_text = ltb-false longest_text text (no 4);
+        long_tag = within tag 12 16 (no 2);
       };
     }
 
 -- what a seal that no row refuses may rely on
-pub seal-allows : (key iv ad text tag room : ℕ) → lowest 1 (sealRows key iv ad text tag room) ≡ 0
+pub seal_allows : (key iv ad text tag room : ℕ) → lowest 1 (seal_rows key iv ad text tag room) ≡ 0
     → Passed key iv ad text tag × (text + tag ≤ room)
-seal-allows key iv ad text tag room none =
-    let no = (lowest-none (sealRows key iv ad text tag room) refl).0 none in
+seal_allows key iv ad text tag room none =
+    let no = (lowest_none (seal_rows key iv ad text tag room) refl).0 none in
     (passed key iv ad text tag _ none, ltb-false room (text + tag) (no 6))
 
 -- what an open that no row about lengths refuses may rely on, whatever rows come after
-pub open-allows : (key iv ad sealed tag room : ℕ) (more : List Bool) → lowest 1 (openLengthRows key iv ad sealed tag room ++ more) ≡ 0
+pub open_allows : (key iv ad sealed tag room : ℕ) (more : List Bool) → lowest 1 (open_length_rows key iv ad sealed tag room ++ more) ≡ 0
     → Passed key iv ad (sealed - tag) tag × ((tag ≤ sealed) × (sealed - tag ≤ room))
-open-allows key iv ad sealed tag room more none =
-    let no = (lowest-none (openLengthRows key iv ad sealed tag room ++ more) refl).0 none in
+open_allows key iv ad sealed tag room more none =
+    let no = (lowest_none (open_length_rows key iv ad sealed tag room ++ more) refl).0 none in
     (passed key iv ad (sealed - tag) tag _ none, (ltb-false sealed tag (no 5), ltb-false room (sealed - tag) (no 6)))

@@ -1,8 +1,8 @@
 // The rows of refusals (rules R2.1 to R2.7), as tests on lengths: the lowest that applies is answered (rule R3.2).
 ghost use Rattle.std.specs.Prelude.{◌≡◌, ◌-◌};
 ghost use Rattle.answer.specs.Number.{number_of};
-ghost use Rattle.rows.specs.Rows.{keyBad, ivBad, tagBad, adBad, textBad, tooShort};
-ghost use Rattle.rows.specs.Rows.{lowest, lengthRows, sealRows, openLengthRows};
+ghost use Rattle.rows.specs.Rows.{key_bad, iv_bad, tag_bad, ad_bad, text_bad, too_short};
+ghost use Rattle.rows.specs.Rows.{lowest, length_rows, seal_rows, open_length_rows};
 
 use answer::{Answer, is_done};
 
@@ -15,7 +15,7 @@ const LONGEST_TEXT: usize = 65536;
 
 // The answer to a seal with these lengths.
 pub fn seal_answer(key: usize, iv: usize, ad: usize, text: usize, tag: usize, room: usize) -> Answer
-    ensures { number_of result ≡ lowest 1 (sealRows key iv ad text tag room) }
+    ensures { number_of result ≡ lowest 1 (seal_rows key iv ad text tag room) }
 {
     let answer = length_answer(key, iv, ad, text, tag);
     if !is_done(answer) {
@@ -36,7 +36,7 @@ pub fn open_answer(
     tag: usize,
     room: usize,
 ) -> Answer
-    ensures { number_of result ≡ lowest 1 (openLengthRows key iv ad sealed tag room) }
+    ensures { number_of result ≡ lowest 1 (open_length_rows key iv ad sealed tag room) }
 {
     let text = less(sealed, tag);
     let answer = length_answer(key, iv, ad, text, tag);
@@ -61,7 +61,7 @@ fn less(a: usize, b: usize) -> usize
 
 // Rows 1 to 5.
 fn length_answer(key: usize, iv: usize, ad: usize, text: usize, tag: usize) -> Answer
-    ensures { number_of result ≡ lowest 1 (lengthRows key iv ad text tag) }
+    ensures { number_of result ≡ lowest 1 (length_rows key iv ad text tag) }
 {
     if key_bad(key) {
         return Answer::KeyLength;
@@ -83,7 +83,7 @@ fn length_answer(key: usize, iv: usize, ad: usize, text: usize, tag: usize) -> A
 
 // Row 1: a key that has neither 16 nor 32 bytes.
 pub fn key_bad(n: usize) -> bool
-    ensures { result ≡ keyBad n }
+    ensures { result ≡ key_bad n }
 {
     if n == 16 {
         return false;
@@ -93,7 +93,7 @@ pub fn key_bad(n: usize) -> bool
 
 // Row 2: an empty IV, or one over the limit.
 fn iv_bad(n: usize) -> bool
-    ensures { result ≡ ivBad n }
+    ensures { result ≡ iv_bad n }
 {
     if n < 1 {
         return true;
@@ -103,7 +103,7 @@ fn iv_bad(n: usize) -> bool
 
 // Row 3: a tag length below 12 or above 16.
 pub fn tag_bad(n: usize) -> bool
-    ensures { result ≡ tagBad n }
+    ensures { result ≡ tag_bad n }
 {
     if n < 12 {
         return true;
@@ -113,21 +113,21 @@ pub fn tag_bad(n: usize) -> bool
 
 // Row 4: associated data over the limit.
 pub fn ad_bad(n: usize) -> bool
-    ensures { result ≡ adBad n }
+    ensures { result ≡ ad_bad n }
 {
     LONGEST_AD < n
 }
 
 // Row 5: text over the limit.
 pub fn text_bad(n: usize) -> bool
-    ensures { result ≡ textBad n }
+    ensures { result ≡ text_bad n }
 {
     LONGEST_TEXT < n
 }
 
 // Rows 6 and 7: fewer bytes than are wanted.
 pub fn too_short(n: usize, wanted: usize) -> bool
-    ensures { result ≡ tooShort n wanted }
+    ensures { result ≡ too_short n wanted }
 {
     n < wanted
 }

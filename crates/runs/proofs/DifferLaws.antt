@@ -11,16 +11,16 @@ use lib.Dec.{eqb, ltb}
 use lib.ListN.{length, get_or, replicate, length-append, get_or-append}
 use lib.Seq.{get_or-append-add, ext_get_or}
 use Rattle.octets.specs.Word.{word_at}
-use Rattle.octets.specs.Block.{longAt, blocksFor}
+use Rattle.octets.specs.Block.{long_at, blocks_for}
 use Rattle.octets.proofs.BlockLaws.{word_bytes}
 use Rattle.aes.specs.Cipher.{enciphered}
-use Rattle.ledger.specs.History.{usedIn}
-use Rattle.mode.specs.Mode.{hashKey, firstBlock}
-use Rattle.counter.specs.Counter.{counterBlock, inputs}
-use Rattle.counter.proofs.InputsLaws.{length-inputs, inputs-first, inputs-word, inputs-keep, inputs-differ}
+use Rattle.ledger.specs.History.{used_in}
+use Rattle.mode.specs.Mode.{hash_key, first_block}
+use Rattle.counter.specs.Counter.{counter_block, inputs}
+use Rattle.counter.proofs.InputsLaws.{length-inputs, inputs_first, inputs_word, inputs_keep, inputs-differ}
 use Rattle.channel_state.specs.declared.Channel.{Channel}
-use Rattle.pieces.specs.Piece.{ivOf, counterAt}
-use Rattle.channel_state.specs.State.{newChannel, beginNumber, feedNumber, piece_of}
+use Rattle.pieces.specs.Piece.{iv_of, counter_at}
+use Rattle.channel_state.specs.State.{new_channel, begin_number, feed_number, piece_of}
 use Rattle.runs.specs.Run.{
   Call,
   begin,
@@ -29,20 +29,20 @@ use Rattle.runs.specs.Run.{
   abandon,
   after,
   Sent,
-  longerBy,
-  sentWith,
-  sentAfter,
+  longer_by,
+  sent_with,
+  sent_after,
   messages,
-  numbersOf,
+  numbers_of,
   Every,
-  inputsOf,
-  blocksOf,
-  inputBlocks,
+  inputs_of,
+  blocks_of,
+  input_blocks,
   Differ,
   Numbered,
   AllNumbered,
 }
-use Rattle.pieces.proofs.PieceLaws.{first-counter}
+use Rattle.pieces.proofs.PieceLaws.{first_counter}
 use Rattle.runs.proofs.CutLaws.{whichever}
 use Rattle.runs.proofs.RunLaws.{Short, Once, going}
 
@@ -102,11 +102,11 @@ differ-append s t f g across i k less h q = go (ltb i (length s)) (ltb k (length
 -- a cipher input block of the message with this mark and number
 record InputBlock (mark : List ℕ) (n : ℕ) (b : List ℕ) : Type 0 where
   marked : (i : ℕ) → i < 4 → get_or b i 0 ≡ get_or mark i 0
-  numbered : longAt b 4 ≡ n
+  numbered : long_at b 4 ≡ n
   counted : 0 < word_at b 12
 
 -- bytes 4 to 11 make the number
-long_same : (b c : List ℕ) → ((i : ℕ) → i < 12 → get_or b i 0 ≡ get_or c i 0) → longAt b 4 ≡ longAt c 4
+long_same : (b c : List ℕ) → ((i : ℕ) → i < 12 → get_or b i 0 ≡ get_or c i 0) → long_at b 4 ≡ long_at c 4
 long_same b c same =
     rw (
       same 4 (omega arith),
@@ -119,47 +119,47 @@ long_same b c same =
       same 11 (omega arith),
     )
 
-mark-front : (mark : List ℕ) (n i : ℕ) → i < 4 → get_or (counterAt (ivOf mark n) 0) i 0 ≡ get_or mark i 0
-unfolding counterAt counterBlock
+mark-front : (mark : List ℕ) (n i : ℕ) → i < 4 → get_or (counter_at (iv_of mark n) 0) i 0 ≡ get_or mark i 0
+unfolding counter_at counter_block
 mark-front mark n zero below = refl
 mark-front mark n (suc zero) below = refl
 mark-front mark n (suc (suc zero)) below = refl
 mark-front mark n (suc (suc (suc zero))) below = refl
 mark-front mark n (suc (suc (suc (suc i)))) below = absurd (omega arith)
 
-number-middle : (mark : List ℕ) (n : ℕ) → n < 2 ^ 64 → longAt (counterAt (ivOf mark n) 0) 4 ≡ n
-unfolding counterAt counterBlock
-number-middle mark n small =
+number_middle : (mark : List ℕ) (n : ℕ) → n < 2 ^ 64 → long_at (counter_at (iv_of mark n) 0) 4 ≡ n
+unfolding counter_at counter_block
+number_middle mark n small =
     let whole : n / 2 ^ 32 % 2 ^ 32 * 2 ^ 32 + n % 2 ^ 32 ≡ n = omega arith in
     ap₂ (λ (a b : ℕ). a * 2 ^ 32 + b) (word_bytes (n / 2 ^ 32)) (word_bytes n) ∙ whole
 
-count-first : (mark : List ℕ) (n : ℕ) → word_at (counterAt (ivOf mark n) 0) 12 ≡ 1
-unfolding counterAt counterBlock
-count-first mark n = refl
+count_first : (mark : List ℕ) (n : ℕ) → word_at (counter_at (iv_of mark n) 0) 12 ≡ 1
+unfolding counter_at counter_block
+count_first mark n = refl
 
 -- the counter of input block i is i + 1
 counts : (j : List ℕ) (m i : ℕ) → word_at j 12 ≡ 1 → i ≤ m → suc m < 2 ^ 32 → 0 < word_at (get_or (inputs j m) i []) 12
 counts j m zero one within few =
-    let same = ap (λ (s : List (List ℕ)). word_at (get_or s 0 []) 12) (inputs-first j m) in
+    let same = ap (λ (s : List (List ℕ)). word_at (get_or s 0 []) 12) (inputs_first j m) in
     omega (arith, same)
 counts j m (suc i) one within few =
-    let same = inputs-word j m (suc i) (omega arith) within in
+    let same = inputs_word j m (suc i) (omega arith) within in
     omega (arith, same)
 
 -- Each cipher input block of a message has its mark, its number, and a counter that is not 0.
-input-block : (h : ℕ) (mark : List ℕ) (n m i : ℕ) → n < 2 ^ 64 → i ≤ m → suc m < 2 ^ 32
-    → InputBlock mark n (get_or (inputs (firstBlock h (ivOf mark n)) m) i [])
-input-block h mark n m i small within few =
-    let j = firstBlock h (ivOf mark n) in
-    let j-is = first-counter h mark n in
+input_block : (h : ℕ) (mark : List ℕ) (n m i : ℕ) → n < 2 ^ 64 → i ≤ m → suc m < 2 ^ 32
+    → InputBlock mark n (get_or (inputs (first_block h (iv_of mark n)) m) i [])
+input_block h mark n m i small within few =
+    let j = first_block h (iv_of mark n) in
+    let j_is = first_counter h mark n in
     record {
       marked = λ k below.
-          inputs-keep j m i within k (omega arith)
-          ∙ ap (λ (b : List ℕ). get_or b k 0) j-is ∙ mark-front mark n k below;
+          inputs_keep j m i within k (omega arith)
+          ∙ ap (λ (b : List ℕ). get_or b k 0) j_is ∙ mark-front mark n k below;
       numbered =
-          long_same (get_or (inputs j m) i []) j (inputs-keep j m i within)
-          ∙ ap (λ (b : List ℕ). longAt b 4) j-is ∙ number-middle mark n small;
-      counted = counts j m i (ap (λ (b : List ℕ). word_at b 12) j-is ∙ count-first mark n) within few;
+          long_same (get_or (inputs j m) i []) j (inputs_keep j m i within)
+          ∙ ap (λ (b : List ℕ). long_at b 4) j_is ∙ number_middle mark n small;
+      counted = counts j m i (ap (λ (b : List ℕ). word_at b 12) j_is ∙ count_first mark n) within few;
     }
 
 -- ---- all messages' blocks
@@ -171,7 +171,7 @@ Narrow m = m.number < 2 ^ 64
 -- a block is one of a message among these
 record Among (mark : List ℕ) (sent : List Sent) (b : List ℕ) : Type 0 where
   number : ℕ
-  used : usedIn (numbersOf sent) number ≡ true
+  used : used_in (numbers_of sent) number ≡ true
   block : InputBlock mark number b
 
 or_right : (a b : Bool) → b ≡ true → (a || b) ≡ true
@@ -179,96 +179,96 @@ or_right true b e = refl
 or_right false b e = e
 
 own_block : (h : ℕ) (mark : List ℕ) (m : Sent) → Short m → Narrow m
-    → Each (InputBlock mark m.number) (inputsOf h mark m)
+    → Each (InputBlock mark m.number) (inputs_of h mark m)
 own_block h mark m short narrow i within =
-    let size = length-inputs (firstBlock h (ivOf mark m.number)) (blocksFor (length m.text)) in
-    input-block h mark m.number (blocksFor (length m.text)) i narrow (omega arith) (omega arith)
+    let size = length-inputs (first_block h (iv_of mark m.number)) (blocks_for (length m.text)) in
+    input_block h mark m.number (blocks_for (length m.text)) i narrow (omega arith) (omega arith)
 
 -- Each cipher input block is one of a message.
-blocks-among : (h : ℕ) (mark : List ℕ) (sent : List Sent) → Every Short sent → Every Narrow sent
-    → Each (Among mark sent) (blocksOf h mark sent)
-unfolding blocksOf numbersOf usedIn
-blocks-among h mark [] short narrow = λ i within. absurd (omega arith)
-blocks-among h mark (m ∷ sent) short narrow =
-    each_append (Among mark (m ∷ sent)) (inputsOf h mark m) (blocksOf h mark sent)
+blocks_among : (h : ℕ) (mark : List ℕ) (sent : List Sent) → Every Short sent → Every Narrow sent
+    → Each (Among mark sent) (blocks_of h mark sent)
+unfolding blocks_of numbers_of used_in
+blocks_among h mark [] short narrow = λ i within. absurd (omega arith)
+blocks_among h mark (m ∷ sent) short narrow =
+    each_append (Among mark (m ∷ sent)) (inputs_of h mark m) (blocks_of h mark sent)
     (λ i within.
     record {
       number = m.number;
-      used = ap (λ (b : Bool). b || usedIn (numbersOf sent) m.number) (eq-eqb m.number m.number refl);
+      used = ap (λ (b : Bool). b || used_in (numbers_of sent) m.number) (eq-eqb m.number m.number refl);
       block = own_block h mark m short.0 narrow.0 i within;
     })
     (λ i within.
-    let older = blocks-among h mark sent short.1 narrow.1 i within in
+    let older = blocks_among h mark sent short.1 narrow.1 i within in
     record {
       number = older.number;
-      used = or_right (eqb m.number older.number) (usedIn (numbersOf sent) older.number) older.used;
+      used = or_right (eqb m.number older.number) (used_in (numbers_of sent) older.number) older.used;
       block = older.block;
     })
 
 -- no two are the same, where no number is there twice
-messages-share-no-block : (h : ℕ) (mark : List ℕ) (sent : List Sent) → Every Short sent → Every Narrow sent → Once sent
-    → Differ (blocksOf h mark sent)
-unfolding blocksOf
-messages-share-no-block h mark [] short narrow once = λ i k less within q. absurd (omega arith)
-messages-share-no-block h mark (m ∷ sent) short narrow once =
-    differ-append (inputsOf h mark m) (blocksOf h mark sent)
+messages_share_no_block : (h : ℕ) (mark : List ℕ) (sent : List Sent) → Every Short sent → Every Narrow sent → Once sent
+    → Differ (blocks_of h mark sent)
+unfolding blocks_of
+messages_share_no_block h mark [] short narrow once = λ i k less within q. absurd (omega arith)
+messages_share_no_block h mark (m ∷ sent) short narrow once =
+    differ-append (inputs_of h mark m) (blocks_of h mark sent)
     (λ i k less within q.
-    let size = length-inputs (firstBlock h (ivOf mark m.number)) (blocksFor (length m.text)) in
+    let size = length-inputs (first_block h (iv_of mark m.number)) (blocks_for (length m.text)) in
     let small = short.0 in
-    inputs-differ (firstBlock h (ivOf mark m.number)) (blocksFor (length m.text)) (omega arith) i k less (omega arith) q)
-    (messages-share-no-block h mark sent short.1 narrow.1 once.1)
+    inputs-differ (first_block h (iv_of mark m.number)) (blocks_for (length m.text)) (omega arith) i k less (omega arith) q)
+    (messages_share_no_block h mark sent short.1 narrow.1 once.1)
     (λ i k here there q.
     let mine = own_block h mark m short.0 narrow.0 i here in
-    let older = blocks-among h mark sent short.1 narrow.1 k there in
+    let older = blocks_among h mark sent short.1 narrow.1 k there in
     let same : older.number ≡ m.number =
-    sym older.block.numbered ∙ ap (λ (b : List ℕ). longAt b 4) (sym q) ∙ mine.numbered in
-    true≢false (sym older.used ∙ ap (usedIn (numbersOf sent)) same ∙ once.0))
+    sym older.block.numbered ∙ ap (λ (b : List ℕ). long_at b 4) (sym q) ∙ mine.numbered in
+    true≢false (sym older.used ∙ ap (used_in (numbers_of sent)) same ∙ once.0))
 
 -- ---- the messages of any calls
 
-longer-narrow : (piece bytes : List ℕ) (sent : List Sent) → Every Narrow sent → Every Narrow (longerBy piece bytes sent)
-unfolding longerBy
-longer-narrow piece bytes [] narrow = narrow
-longer-narrow piece bytes (m ∷ sent) narrow = narrow
+longer_narrow : (piece bytes : List ℕ) (sent : List Sent) → Every Narrow sent → Every Narrow (longer_by piece bytes sent)
+unfolding longer_by
+longer_narrow piece bytes [] narrow = narrow
+longer_narrow piece bytes (m ∷ sent) narrow = narrow
 
-with-narrow : (c : Channel) (sent : List Sent) (call : Call) → Every Narrow sent → Numbered call
-    → Every Narrow (sentWith c sent call)
-unfolding sentWith
-with-narrow c sent (begin n ad) narrow small =
-    whichever (Every Narrow) (beginNumber c n (length ad)) (record { number = n; ad = ad; text = []; bytes = [] } ∷ sent) sent
+with_narrow : (c : Channel) (sent : List Sent) (call : Call) → Every Narrow sent → Numbered call
+    → Every Narrow (sent_with c sent call)
+unfolding sent_with
+with_narrow c sent (begin n ad) narrow small =
+    whichever (Every Narrow) (begin_number c n (length ad)) (record { number = n; ad = ad; text = []; bytes = [] } ∷ sent) sent
     (small, narrow) narrow
-with-narrow c sent (feed piece room) narrow small =
-    whichever (Every Narrow) (feedNumber c (length piece) room) (longerBy piece (piece_of c piece) sent) sent
-    (longer-narrow piece (piece_of c piece) sent narrow) narrow
-with-narrow c sent finish narrow small = narrow
-with-narrow c sent abandon narrow small = narrow
+with_narrow c sent (feed piece room) narrow small =
+    whichever (Every Narrow) (feed_number c (length piece) room) (longer_by piece (piece_of c piece) sent) sent
+    (longer_narrow piece (piece_of c piece) sent narrow) narrow
+with_narrow c sent finish narrow small = narrow
+with_narrow c sent abandon narrow small = narrow
 
-after-narrow : (c : Channel) (sent : List Sent) (calls : List Call) → Every Narrow sent → AllNumbered calls
-    → Every Narrow (sentAfter c sent calls)
-unfolding sentAfter
-after-narrow c sent [] narrow small = narrow
-after-narrow c sent (call ∷ calls) narrow small =
-    after-narrow (after c call) (sentWith c sent call) calls (with-narrow c sent call narrow small.0) small.1
+after_narrow : (c : Channel) (sent : List Sent) (calls : List Call) → Every Narrow sent → AllNumbered calls
+    → Every Narrow (sent_after c sent calls)
+unfolding sent_after
+after_narrow c sent [] narrow small = narrow
+after_narrow c sent (call ∷ calls) narrow small =
+    after_narrow (after c call) (sent_with c sent call) calls (with_narrow c sent call narrow small.0) small.1
 
 all_among : (key mark : List ℕ) (t : ℕ) (calls : List Call) → AllNumbered calls
-    → Each (Among mark (messages (newChannel key mark t) calls)) (inputBlocks key mark t calls)
+    → Each (Among mark (messages (new_channel key mark t) calls)) (input_blocks key mark t calls)
 all_among key mark t calls small =
-    blocks-among (hashKey (enciphered key)) mark (messages (newChannel key mark t) calls) (going key mark t calls).short
-    (after-narrow (newChannel key mark t) [] calls tt small)
+    blocks_among (hash_key (enciphered key)) mark (messages (new_channel key mark t) calls) (going key mark t calls).short
+    (after_narrow (new_channel key mark t) [] calls tt small)
 
 -- Over any calls from an opening, the cipher input blocks of all messages differ, also of those abandoned or still open.
-pub all-blocks-differ : (key mark : List ℕ) (t : ℕ) (calls : List Call) → AllNumbered calls
-    → Differ (inputBlocks key mark t calls)
-all-blocks-differ key mark t calls small =
-    messages-share-no-block (hashKey (enciphered key)) mark (messages (newChannel key mark t) calls) (going key mark t calls).short
-    (after-narrow (newChannel key mark t) [] calls tt small) (going key mark t calls).once
+pub all_blocks_differ : (key mark : List ℕ) (t : ℕ) (calls : List Call) → AllNumbered calls
+    → Differ (input_blocks key mark t calls)
+all_blocks_differ key mark t calls small =
+    messages_share_no_block (hash_key (enciphered key)) mark (messages (new_channel key mark t) calls) (going key mark t calls).short
+    (after_narrow (new_channel key mark t) [] calls tt small) (going key mark t calls).once
 
 -- None of them is the zero block.
-pub no-zero-block : (key mark : List ℕ) (t : ℕ) (calls : List Call) → AllNumbered calls → (i : ℕ)
-    → i < length (inputBlocks key mark t calls)
-    → get_or (inputBlocks key mark t calls) i [] ≡ replicate 16 0
+pub no_zero_block : (key mark : List ℕ) (t : ℕ) (calls : List Call) → AllNumbered calls → (i : ℕ)
+    → i < length (input_blocks key mark t calls)
+    → get_or (input_blocks key mark t calls) i [] ≡ replicate 16 0
     → ⊥
-no-zero-block key mark t calls small i within q =
+no_zero_block key mark t calls small i within q =
     let counted = (all_among key mark t calls small i within).block.counted in
     let none = ap (λ (b : List ℕ). word_at b 12) q in
     omega arith
@@ -281,9 +281,9 @@ pub marks-apart : (key mark : List ℕ) (t : ℕ) (calls : List Call) → AllNum
     → length mark' ≡ 4
     → (mark ≡ mark' → ⊥)
     → (i k : ℕ)
-    → i < length (inputBlocks key mark t calls)
-    → k < length (inputBlocks key' mark' t' calls')
-    → get_or (inputBlocks key mark t calls) i [] ≡ get_or (inputBlocks key' mark' t' calls') k []
+    → i < length (input_blocks key mark t calls)
+    → k < length (input_blocks key' mark' t' calls')
+    → get_or (input_blocks key mark t calls) i [] ≡ get_or (input_blocks key' mark' t' calls') k []
     → ⊥
 marks-apart key mark t calls small key' mark' t' calls' small' four four' apart i k within within' q =
     let one = all_among key mark t calls small i within in

@@ -1,15 +1,15 @@
 -- Any calls of a channel, one after the other, and what comes of them: the channel, the bytes written, the messages begun, and
 -- their cipher input blocks.
 use Rattle.std.specs.Prelude.{◌≡◌, true, false, List, [], ◌∷◌, ◌++◌, ◌↔◌, ℕ, ◌^◌, ◌≤◌, ◌<◌, length, get_or, take}
-use Rattle.answer.specs.Number.{ifDone}
-use Rattle.octets.specs.Block.{blocksFor}
+use Rattle.answer.specs.Number.{if_done}
+use Rattle.octets.specs.Block.{blocks_for}
 use Rattle.aes.specs.Cipher.{enciphered}
-use Rattle.ledger.specs.History.{staleIn, usedIn}
-use Rattle.mode.specs.Mode.{hashKey, firstBlock, sealed}
+use Rattle.ledger.specs.History.{stale_in, used_in}
+use Rattle.mode.specs.Mode.{hash_key, first_block, sealed}
 use Rattle.counter.specs.Counter.{inputs, crypted}
 use Rattle.channel_state.specs.declared.Channel.{Channel}
-use Rattle.pieces.specs.Piece.{ivOf}
-use Rattle.channel_state.specs.State.{newChannel, beginNumber, beginOf, feedNumber, feedOf, piece_of, end_of}
+use Rattle.pieces.specs.Piece.{iv_of}
+use Rattle.channel_state.specs.State.{new_channel, begin_number, begin_of, feed_number, feed_of, piece_of, end_of}
 
 -- a call: begin with a number and AD, feed a piece with so much room in the output, finish, abandon
 pub data Call : Type 0 where
@@ -20,8 +20,8 @@ pub data Call : Type 0 where
 
 -- the channel that a call hands back, and that a list of calls does, each on the channel of the one before
 unfoldable pub after : Channel → Call → Channel
-after c (begin n ad) = beginOf c n ad
-after c (feed piece room) = feedOf c piece room
+after c (begin n ad) = begin_of c n ad
+after c (feed piece room) = feed_of c piece room
 after c finish = end_of c
 after c abandon = end_of c
 
@@ -34,7 +34,7 @@ run c (call ∷ calls) = run (after c call) calls
 -- the bytes that a call writes into the front of its output: a refused one writes none
 unfoldable pub wrote : Channel → Call → List ℕ
 wrote c (begin n ad) = []
-wrote c (feed piece room) = ifDone (feedNumber c (length piece) room) (piece_of c piece) []
+wrote c (feed piece room) = if_done (feed_number c (length piece) room) (piece_of c piece) []
 wrote c finish = []
 wrote c abandon = []
 
@@ -70,42 +70,42 @@ pub record Sent : Type 0 where
   pub bytes : List ℕ
 
 -- a piece more for the newest message, and the bytes for it
-unfoldable pub longerBy : List ℕ → List ℕ → List Sent → List Sent
-longerBy piece bytes [] = []
-longerBy piece bytes (m ∷ sent) =
+unfoldable pub longer_by : List ℕ → List ℕ → List Sent → List Sent
+longer_by piece bytes [] = []
+longer_by piece bytes (m ∷ sent) =
     record { number = m.number; ad = m.ad; text = m.text ++ piece; bytes = m.bytes ++ bytes } ∷ sent
 
 -- the messages, the newest first, with a call: an accepted begin adds one, an accepted feed makes the newest longer, and nothing
 -- takes one away
-unfoldable pub sentWith : Channel → List Sent → Call → List Sent
-sentWith c sent (begin n ad) =
-    ifDone (beginNumber c n (length ad)) (record { number = n; ad = ad; text = []; bytes = [] } ∷ sent) sent
-sentWith c sent (feed piece room) =
-    ifDone (feedNumber c (length piece) room) (longerBy piece (piece_of c piece) sent) sent
-sentWith c sent finish = sent
-sentWith c sent abandon = sent
+unfoldable pub sent_with : Channel → List Sent → Call → List Sent
+sent_with c sent (begin n ad) =
+    if_done (begin_number c n (length ad)) (record { number = n; ad = ad; text = []; bytes = [] } ∷ sent) sent
+sent_with c sent (feed piece room) =
+    if_done (feed_number c (length piece) room) (longer_by piece (piece_of c piece) sent) sent
+sent_with c sent finish = sent
+sent_with c sent abandon = sent
 
-unfoldable pub sentAfter : Channel → List Sent → List Call → List Sent
-sentAfter c sent [] = sent
-sentAfter c sent (call ∷ calls) = sentAfter (after c call) (sentWith c sent call) calls
+unfoldable pub sent_after : Channel → List Sent → List Call → List Sent
+sent_after c sent [] = sent
+sent_after c sent (call ∷ calls) = sent_after (after c call) (sent_with c sent call) calls
 
 -- all messages of a list of calls, also those abandoned or still open
 abbrev pub messages : Channel → List Call → List Sent
-messages c calls = sentAfter c [] calls
+messages c calls = sent_after c [] calls
 
 -- the numbers accepted: those of the messages
-unfoldable pub numbersOf : List Sent → List ℕ
-numbersOf [] = []
-numbersOf (m ∷ sent) = m.number ∷ numbersOf sent
+unfoldable pub numbers_of : List Sent → List ℕ
+numbers_of [] = []
+numbers_of (m ∷ sent) = m.number ∷ numbers_of sent
 
 abbrev pub accepted : Channel → List Call → List ℕ
-accepted c calls = numbersOf (messages c calls)
+accepted c calls = numbers_of (messages c calls)
 
 -- what a begin with number n answers, from the numbers h accepted before, where it passes phase and length checks
 pub record Judged (h : List ℕ) (n answer : ℕ) : Type 0 where
-  pub stale : (answer ≡ 10) ↔ (staleIn h n ≡ true)
-  pub used : (answer ≡ 11) ↔ ((staleIn h n ≡ false) × (usedIn h n ≡ true))
-  pub done : (answer ≡ 0) ↔ ((staleIn h n ≡ false) × (usedIn h n ≡ false))
+  pub stale : (answer ≡ 10) ↔ (stale_in h n ≡ true)
+  pub used : (answer ≡ 11) ↔ ((stale_in h n ≡ false) × (used_in h n ≡ true))
+  pub done : (answer ≡ 0) ↔ ((stale_in h n ≡ false) × (used_in h n ≡ false))
 
 -- there is a newest message, and it is so
 abbrev pub Newest : (Sent → Type 0) → List Sent → Type 0
@@ -120,27 +120,27 @@ Every P (m ∷ sent) = P m × Every P sent
 -- the bytes of a message are the ciphertext of its text
 abbrev pub Crypted : List ℕ → List ℕ → Sent → Type 0
 Crypted key mark m =
-    m.bytes ≡ crypted (enciphered key) (firstBlock (hashKey (enciphered key)) (ivOf mark m.number)) m.text
+    m.bytes ≡ crypted (enciphered key) (first_block (hash_key (enciphered key)) (iv_of mark m.number)) m.text
 
 -- its bytes with the leading t bytes of a tag behind them are the seal at once of its text
 abbrev pub SealedWith : List ℕ → List ℕ → ℕ → List ℕ → Sent → Type 0
 SealedWith key mark t tag m =
-    m.bytes ++ take t tag ≡ sealed (enciphered key) (ivOf mark m.number) m.ad t m.text
+    m.bytes ++ take t tag ≡ sealed (enciphered key) (iv_of mark m.number) m.ad t m.text
 
 -- ---- the cipher input blocks
 
 -- the cipher input blocks of a message: J, and J stepped 1 to ⌈total fed / 16⌉ times
-abbrev pub inputsOf : ℕ → List ℕ → Sent → List (List ℕ)
-inputsOf h mark m = inputs (firstBlock h (ivOf mark m.number)) (blocksFor (length m.text))
+abbrev pub inputs_of : ℕ → List ℕ → Sent → List (List ℕ)
+inputs_of h mark m = inputs (first_block h (iv_of mark m.number)) (blocks_for (length m.text))
 
 -- those of all messages
-unfoldable pub blocksOf : ℕ → List ℕ → List Sent → List (List ℕ)
-blocksOf h mark [] = []
-blocksOf h mark (m ∷ sent) = inputsOf h mark m ++ blocksOf h mark sent
+unfoldable pub blocks_of : ℕ → List ℕ → List Sent → List (List ℕ)
+blocks_of h mark [] = []
+blocks_of h mark (m ∷ sent) = inputs_of h mark m ++ blocks_of h mark sent
 
 -- those of all messages of a list of calls on a new channel
-abbrev pub inputBlocks : List ℕ → List ℕ → ℕ → List Call → List (List ℕ)
-inputBlocks key mark t calls = blocksOf (hashKey (enciphered key)) mark (messages (newChannel key mark t) calls)
+abbrev pub input_blocks : List ℕ → List ℕ → ℕ → List Call → List (List ℕ)
+input_blocks key mark t calls = blocks_of (hash_key (enciphered key)) mark (messages (new_channel key mark t) calls)
 
 -- any two at different places differ
 abbrev pub Differ : List (List ℕ) → Type 0

@@ -8,18 +8,18 @@ abbrev pub bit : ℕ → ℕ → ℕ
 bit b i = b / 2 ^ (i % 8) % 2
 
 -- bit i of the entry for a byte whose inverse is b: the xor of bits i, i+4, i+5, i+6, i+7 of b and bit i of 63
-abbrev pub entryBit : ℕ → ℕ → ℕ
-entryBit b i =
+abbrev pub entry_bit : ℕ → ℕ → ℕ
+entry_bit b i =
     bit_xor (bit b i)
     (bit_xor (bit b (i + 4)) (bit_xor (bit b (i + 5)) (bit_xor (bit b (i + 6)) (bit_xor (bit b (i + 7)) (bit 0x63 i)))))
 
 -- the number whose lowest n bits are the entry's
-unfoldable pub entryBits : ℕ → ℕ → ℕ
-entryBits zero b = 0
-entryBits (suc n) b = entryBit b n * 2 ^ n + entryBits n b
+unfoldable pub entry_bits : ℕ → ℕ → ℕ
+entry_bits zero b = 0
+entry_bits (suc n) b = entry_bit b n * 2 ^ n + entry_bits n b
 
 unfoldable pub substituted : ℕ → ℕ
-substituted a = entryBits 8 (inverse a)
+substituted a = entry_bits 8 (inverse a)
 
 -- t holds the substitution of every byte
 pub record Substitutes (t : List ℕ) : Type 0 where

@@ -1,8 +1,8 @@
 // The key schedule: sixty words, of which a key of 16 bytes uses 44 (FIPS 197: KEYEXPANSION).
 ghost use Rattle.std.specs.Prelude.{◌≡◌, ◌≤◌, ◌<◌, ◌*◌, length};
 ghost use Rattle.sbox.specs.Substitution.{Substitutes};
-ghost use Rattle.schedule.specs.Schedule.{keyWordsIn, inSixty, roundKeys};
-ghost use Rattle.schedule.specs.Schedule.{turned, substitutedWord, halfway, changed};
+ghost use Rattle.schedule.specs.Schedule.{key_words_in, in_sixty, round_keys};
+ghost use Rattle.schedule.specs.Schedule.{turned, substituted_word, halfway, changed};
 
 use octets::{bytes, word, word_at};
 use sbox::substitute;
@@ -13,7 +13,7 @@ const ROUND_CONSTANTS: [u8; 10] = [0x01, 0x02, 0x04, 0x08, 0x10, 0x20, 0x40, 0x8
 pub fn expand(table: &[u8; 256], key: &[u8]) -> [u32; 60]
     requires substitutes { Substitutes table.now }
     requires in_bounds { (16 ≤ length key.now) × (length key.now ≤ 32) }
-    ensures { result ≡ roundKeys key.now }
+    ensures { result ≡ round_keys key.now }
 {
     let n = key.len() / 4;
     let total = 4 * (n + 7);
@@ -29,7 +29,7 @@ pub fn expand(table: &[u8; 256], key: &[u8]) -> [u32; 60]
 // The key's own words, with zeros after them.
 fn load(key: &[u8]) -> [u32; 60]
     requires { length key.now ≤ 32 }
-    ensures { result ≡ inSixty (keyWordsIn key.now) key.now (keyWordsIn key.now) }
+    ensures { result ≡ in_sixty (key_words_in key.now) key.now (key_words_in key.now) }
 {
     let n = key.len() / 4;
     let mut words = [0u32; 60];
@@ -80,7 +80,7 @@ fn turn(w: u32) -> u32
 // The word with each of its bytes substituted (FIPS 197: SUBWORD).
 fn sub_word(table: &[u8; 256], w: u32) -> u32
     requires { Substitutes table.now }
-    ensures { result ≡ substitutedWord w }
+    ensures { result ≡ substituted_word w }
 {
     let b = bytes(w);
     word(

@@ -2,7 +2,7 @@
 use Rattle.std.specs.Prelude.{List, [], ◌∷◌, ℕ, ◌+◌, ◌*◌, ◌%◌, get_or}
 use Rattle.std.specs.Int.Bits.{bit_xor}
 use Rattle.octets.specs.Word.{word_at, bytes_of}
-use Rattle.octets.specs.Block.{blockFrom}
+use Rattle.octets.specs.Block.{block_from}
 use Rattle.byte_field.specs.Field.{product}
 use Rattle.sbox.specs.Substitution.{substituted}
 
@@ -27,33 +27,33 @@ state_of block = filled (λ r c. get_or block (r + 4 * c) 0)
 
 -- the block that fills the state: its columns, one after the other
 abbrev pub block_of : List (List ℕ) → List ℕ
-block_of s = blockFrom (column s 0) (column s 1) (column s 2) (column s 3)
+block_of s = block_from (column s 0) (column s 1) (column s 2) (column s 3)
 
 -- each byte substituted (FIPS 197: SUBBYTES)
-unfoldable pub substitutedColumn : List ℕ → List ℕ
-substitutedColumn s = four (λ r. substituted (row s r))
+unfoldable pub substituted_column : List ℕ → List ℕ
+substituted_column s = four (λ r. substituted (row s r))
 
-abbrev pub substitutedBytes : List (List ℕ) → List (List ℕ)
-substitutedBytes s = four (λ c. substitutedColumn (column s c))
+abbrev pub substituted_bytes : List (List ℕ) → List (List ℕ)
+substituted_bytes s = four (λ c. substituted_column (column s c))
 
 -- the new byte at row r, column c is the old one at row r, column (c + r) mod 4 (FIPS 197: SHIFTROWS)
-abbrev pub shiftedRows : List (List ℕ) → List (List ℕ)
-shiftedRows s = filled (λ r c. row (column s ((c + r) % 4)) r)
+abbrev pub shifted_rows : List (List ℕ) → List (List ℕ)
+shifted_rows s = filled (λ r c. row (column s ((c + r) % 4)) r)
 
 -- 2·a + 3·b + c + d
 unfoldable pub mixed : ℕ → ℕ → ℕ → ℕ → ℕ
 mixed a b c d = bit_xor (bit_xor (bit_xor (product 2 a) (product 3 b)) c) d
 
 -- row r is mixed of rows r, r + 1, r + 2 and r + 3, turning from the last to the first (FIPS 197: MIXCOLUMNS)
-unfoldable pub mixedColumn : List ℕ → List ℕ
-mixedColumn s = four (λ r. mixed (row s r) (row s ((r + 1) % 4)) (row s ((r + 2) % 4)) (row s ((r + 3) % 4)))
+unfoldable pub mixed_column : List ℕ → List ℕ
+mixed_column s = four (λ r. mixed (row s r) (row s ((r + 1) % 4)) (row s ((r + 2) % 4)) (row s ((r + 3) % 4)))
 
-abbrev pub mixedColumns : List (List ℕ) → List (List ℕ)
-mixedColumns s = four (λ c. mixedColumn (column s c))
+abbrev pub mixed_columns : List (List ℕ) → List (List ℕ)
+mixed_columns s = four (λ c. mixed_column (column s c))
 
 -- word c of the four from word 4k on is xored into column c (FIPS 197: ADDROUNDKEY)
-unfoldable pub keyedColumn : List ℕ → ℕ → List ℕ
-keyedColumn s word = bytes_of (bit_xor (word_at s 0) word)
+unfoldable pub keyed_column : List ℕ → ℕ → List ℕ
+keyed_column s word = bytes_of (bit_xor (word_at s 0) word)
 
 abbrev pub keyed : List ℕ → ℕ → List (List ℕ) → List (List ℕ)
-keyed words k s = four (λ c. keyedColumn (column s c) (get_or words (4 * k + c) 0))
+keyed words k s = four (λ c. keyed_column (column s c) (get_or words (4 * k + c) 0))

@@ -1,9 +1,9 @@
 // The cipher's state, `state[c][r]` the byte in row r and column c, and the four steps of a round.
 ghost use Rattle.std.specs.Prelude.{◌≡◌, ◌≤◌};
 ghost use Rattle.sbox.specs.Substitution.{Substitutes};
-ghost use Rattle.state.specs.State.{state_of, block_of, shiftedRows};
-ghost use Rattle.state.specs.State.{substitutedColumn, mixedColumn, keyedColumn};
-ghost use Rattle.state.specs.State.{substitutedBytes, mixedColumns, keyed};
+ghost use Rattle.state.specs.State.{state_of, block_of, shifted_rows};
+ghost use Rattle.state.specs.State.{substituted_column, mixed_column, keyed_column};
+ghost use Rattle.state.specs.State.{substituted_bytes, mixed_columns, keyed};
 
 use byte_field::double;
 use octets::{block_from, bytes, word};
@@ -24,7 +24,7 @@ pub fn state_of(b: [u8; 16]) -> [[u8; 4]; 4]
 // Each byte substituted (FIPS 197: SUBBYTES).
 pub fn sub_bytes(table: &[u8; 256], s: [[u8; 4]; 4]) -> [[u8; 4]; 4]
     requires { Substitutes table.now }
-    ensures { result ≡ substitutedBytes s }
+    ensures { result ≡ substituted_bytes s }
 {
     [
         sub_column(table, s[0]),
@@ -36,7 +36,7 @@ pub fn sub_bytes(table: &[u8; 256], s: [[u8; 4]; 4]) -> [[u8; 4]; 4]
 
 fn sub_column(table: &[u8; 256], s: [u8; 4]) -> [u8; 4]
     requires { Substitutes table.now }
-    ensures { result ≡ substitutedColumn s }
+    ensures { result ≡ substituted_column s }
 {
     [
         substitute(table, s[0]),
@@ -48,7 +48,7 @@ fn sub_column(table: &[u8; 256], s: [u8; 4]) -> [u8; 4]
 
 // Each row turned to the left by its own number (FIPS 197: SHIFTROWS).
 pub fn shift_rows(s: [[u8; 4]; 4]) -> [[u8; 4]; 4]
-    ensures { result ≡ shiftedRows s }
+    ensures { result ≡ shifted_rows s }
 {
     let a = s[0];
     let b = s[1];
@@ -64,7 +64,7 @@ pub fn shift_rows(s: [[u8; 4]; 4]) -> [[u8; 4]; 4]
 
 // Each row of a column mixed with the three after it (FIPS 197: MIXCOLUMNS).
 pub fn mix_columns(s: [[u8; 4]; 4]) -> [[u8; 4]; 4]
-    ensures { result ≡ mixedColumns s }
+    ensures { result ≡ mixed_columns s }
 {
     [
         mix_column(s[0]),
@@ -75,7 +75,7 @@ pub fn mix_columns(s: [[u8; 4]; 4]) -> [[u8; 4]; 4]
 }
 
 fn mix_column(s: [u8; 4]) -> [u8; 4]
-    ensures { result ≡ mixedColumn s }
+    ensures { result ≡ mixed_column s }
 {
     let a = s[0];
     let b = s[1];
@@ -108,7 +108,7 @@ pub fn add_round_key(words: &[u32; 60], round: usize, s: [[u8; 4]; 4]) -> [[u8; 
 }
 
 fn add_word(s: [u8; 4], w: u32) -> [u8; 4]
-    ensures { result ≡ keyedColumn s w }
+    ensures { result ≡ keyed_column s w }
 {
     bytes(word(s[0], s[1], s[2], s[3]) ^ w)
 }

@@ -1,7 +1,7 @@
 // Chunks of the vector program's input, taken in and answered.
 ghost use Rattle.std.specs.Prelude.{◌≡◌, ◌+◌, ◌≤◌, ◌<◌, length, take, drop};
 ghost use Rattle.records.specs.Remembered.{Served};
-ghost use Rattle.vector_lines.specs.Line.{answerLine};
+ghost use Rattle.vector_lines.specs.Line.{answer_line};
 
 use records::machine::{Machine, ready, scan};
 use vector_lines::answer_record;
@@ -30,7 +30,7 @@ pub fn serve(
     at: usize,
 ) -> Service
     requires { 8227 ≤ length out.old }
-    ensures served { Served answerLine m key.old iv.old ad.old text.old chunk.now at out.old result.machine key.new iv.new ad.new text.new result.at out.new result.count }
+    ensures served { Served answer_line m key.old iv.old ad.old text.old chunk.now at out.old result.machine key.new iv.new ad.new text.new result.at out.new result.count }
     ensures at_lt_at { at < length chunk.now → at < result.at }
 {
     let stop = scan(key, iv, ad, text, m, chunk, at);
@@ -65,7 +65,7 @@ fn serve_behind(
     count: usize,
 ) -> Service
     requires { count + 8227 ≤ length out.old }
-    ensures served { Served answerLine m key.old iv.old ad.old text.old chunk.now at (drop count out.old) result.machine key.new iv.new ad.new text.new result.at (drop count out.new) result.count }
+    ensures served { Served answer_line m key.old iv.old ad.old text.old chunk.now at (drop count out.old) result.machine key.new iv.new ad.new text.new result.at (drop count out.new) result.count }
     ensures at_lt_at { at < length chunk.now → at < result.at }
     ensures out_unchanged { take count out.new ≡ take count out.old }
 {
@@ -85,7 +85,7 @@ pub fn serve_chunk(
     at: usize,
 ) -> Service
     requires { 8227 ≤ length out.old }
-    ensures served { Served answerLine m key.old iv.old ad.old text.old chunk.now at out.old result.machine key.new iv.new ad.new text.new result.at out.new result.count }
+    ensures served { Served answer_line m key.old iv.old ad.old text.old chunk.now at out.old result.machine key.new iv.new ad.new text.new result.at out.new result.count }
     ensures at_lt_at { at < length chunk.now → at < result.at }
 {
     let mut machine = m;

@@ -1,7 +1,7 @@
 // The line of the vector program that answers a record.
 ghost use Rattle.std.specs.Prelude.{◌≡◌, ◌≤◌, length};
 ghost use Rattle.records.specs.Answers.{Wrote};
-ghost use Rattle.vector_lines.specs.Line.{answerLine, fieldIn, recordLine};
+ghost use Rattle.vector_lines.specs.Line.{answer_line, field_in, record_line};
 
 use answer::{is_done, number};
 use gcm::seal;
@@ -13,7 +13,7 @@ use records::machine::Machine;
 // stands behind the line stays.
 pub fn answer_bytes(out: &mut [u8], key: &[u8], iv: &[u8], ad: &[u8], text: &[u8]) -> usize
     requires { (length text.now ≤ 4096) × (8227 ≤ length out.old) }
-    ensures { Wrote (answerLine key.now iv.now ad.now text.now) out.old out.new result }
+    ensures { Wrote (answer_line key.now iv.now ad.now text.now) out.old out.new result }
 {
     let mut sealed = [0u8; 4112];
     answer_through(out, &mut sealed, key, iv, ad, text)
@@ -29,7 +29,7 @@ fn answer_through(
     text: &[u8],
 ) -> usize
     requires { (length text.now ≤ 4096) × (length sealed.old ≡ 4112) × (8227 ≤ length out.old) }
-    ensures { Wrote (answerLine key.now iv.now ad.now text.now) out.old out.new result }
+    ensures { Wrote (answer_line key.now iv.now ad.now text.now) out.old out.new result }
 {
     let outcome = seal(key, iv, ad, text, 16, sealed);
     let answer = outcome.answer;
@@ -43,7 +43,7 @@ fn answer_through(
 // The first n bytes of a field's buffer; all of it where n is more.
 fn field(s: &[u8], n: usize) -> &[u8]
     requires { 4096 ≤ length s.now }
-    ensures { result.now ≡ fieldIn s.now n }
+    ensures { result.now ≡ field_in s.now n }
 {
     let end = least(n, 4096);
     &s[..end]
@@ -60,7 +60,7 @@ pub fn answer_record(
     m: Machine,
 ) -> usize
     requires { 8227 ≤ length out.old }
-    ensures { Wrote (recordLine m key.now iv.now ad.now text.now) out.old out.new result }
+    ensures { Wrote (record_line m key.now iv.now ad.now text.now) out.old out.new result }
 {
     if m.good {
         return answer_bytes(

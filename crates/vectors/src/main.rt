@@ -1,10 +1,10 @@
 // The vector program: it reads records, hands them on, and writes the answers.
 ghost use Rattle.std.specs.Prelude.{◌≡◌, false, ◌≤◌, ◌<◌, length, take};
 ghost use Rattle.records.specs.Answers.{Wrote};
-ghost use Rattle.records.specs.Kept.{lastLine};
+ghost use Rattle.records.specs.Kept.{last_line};
 ghost use Rattle.records.specs.Remembered.{FieldBuffers};
 ghost use Rattle.records.specs.Input.{Answered, Ended};
-ghost use Rattle.vector_lines.specs.Line.{answerLine};
+ghost use Rattle.vector_lines.specs.Line.{answer_line};
 
 use libc::{STDERR_FILENO, STDIN_FILENO, STDOUT_FILENO};
 use records::answers::write_last;
@@ -46,7 +46,7 @@ struct End {
 // Each field has a buffer of 4,096 bytes, cleared at first.
 fn answer_in(out: &mut [u8], chunk: &mut [u8]) -> End
     requires { 8227 ≤ length out.old }
-    ensures { Ended answerLine result.turns result.last result.failed result.unread out.new }
+    ensures { Ended answer_line result.turns result.last result.failed result.unread out.new }
 {
     let mut key = [0u8; 4096];
     let mut iv = [0u8; 4096];
@@ -68,7 +68,7 @@ fn answer_input(
 ) -> End
     requires in_bounds { 8227 ≤ length out.old }
     requires field_buffers { FieldBuffers key.old iv.old ad.old text.old }
-    ensures { Ended answerLine result.turns result.last result.failed result.unread out.new }
+    ensures { Ended answer_line result.turns result.last result.failed result.unread out.new }
 {
     let mut machine = ready();
     let mut turns = u64::MAX;
@@ -123,7 +123,7 @@ struct Handed {
 // Answers what remains where the input ends.
 fn answer_rest(out: &mut [u8], machine: Machine) -> Handed
     requires { 4 ≤ length out.old }
-    ensures { Wrote (lastLine machine) out.old out.new result.count }
+    ensures { Wrote (last_line machine) out.old out.new result.count }
 {
     let count = write_last(out, machine);
     hand_out(&out[..count])
@@ -158,7 +158,7 @@ fn answer_chunk(
     chunk: &[u8],
 ) -> Progress
     requires { 8227 ≤ length out.old }
-    ensures answered { Answered answerLine m key.old iv.old ad.old text.old (take result.at chunk.now) result.machine key.new iv.new ad.new text.new }
+    ensures answered { Answered answer_line m key.old iv.old ad.old text.old (take result.at chunk.now) result.machine key.new iv.new ad.new text.new }
     ensures at_value { result.failed ≡ false → result.at ≡ length chunk.now }
     ensures at_nonzero { 0 < length chunk.now → 0 < result.at }
 {

@@ -3,18 +3,18 @@ use mathlib.Core.Path.{◌≡◌, refl, ◌∙◌, ap}
 use Prim.Native.Nat.{◌≤◌, ◌+◌, ◌-◌}
 use native.Mathlib.Numerals.{add-one}
 use native.Mathlib.Omega.{arith}
-use Rattle.aes.specs.Cipher.{rounded, afterRounds}
+use Rattle.aes.specs.Cipher.{rounded, after_rounds}
 use Rattle.aes.proofs.all_but_last.Statement.{statement}
 use Rattle.aes.proofs.all_but_last.Tie as tie
 
 abbrev invariant-loop : tie.invariant-loop
-invariant-loop table words rounds state₀ done₀ state done = (done ≤ rounds - 1) × (state ≡ afterRounds words done state₀)
+invariant-loop table words rounds state₀ done₀ state done = (done ≤ rounds - 1) × (state ≡ after_rounds words done state₀)
 
 abbrev decreases-loop : tie.decreases-loop
 decreases-loop table words rounds state₀ done₀ state done = rounds - done
 
 loop-holds : tie.Need-loop-init invariant-loop decreases-loop
-unfolding afterRounds
+unfolding after_rounds
 loop-holds c = (omega arith, refl)
 
 add-loop : tie.Need-overflow-add-loop invariant-loop decreases-loop
@@ -33,7 +33,7 @@ loop-less : tie.Need-loop-smaller invariant-loop decreases-loop
 loop-less c = omega arith
 
 loop-again : tie.Need-loop-preserved invariant-loop decreases-loop
-unfolding afterRounds
+unfolding after_rounds
 loop-again c =
     let done = c.before.before.loop.done in
     let given = c.before.before.before.args in
@@ -44,7 +44,7 @@ returns : tie.Need-returns invariant-loop decreases-loop
 returns c =
     let given = c.before.before.args in
     let done : c.before.loop.done ≡ given.rounds - 1 = omega arith in
-    c.before.loop.invariant.1 ∙ ap (λ k. afterRounds given.words.now k given.s) done
+    c.before.loop.invariant.1 ∙ ap (λ k. after_rounds given.words.now k given.s) done
 
 pub all-but-last-spec : {M : Type 1} → statement M
 all-but-last-spec =

@@ -1,6 +1,6 @@
 -- `aes::encipher` meets its contract: it enciphers with the round keys that the definition has.
 use borrow.Author.Rules.{rules}
-use Rattle.aes.proofs.CipherLaws.{by-round-keys}
+use Rattle.aes.proofs.CipherLaws.{by_round_keys}
 use Rattle.aes.proofs.encipher.Statement.{statement}
 use Rattle.aes.proofs.encipher.Tie as tie
 
@@ -19,7 +19,7 @@ encipher-by-requires c κs = search rules
 returns : tie.Need-returns
 returns c =
     let key = c.before.before.before.before.before.before.before.args.key.now in
-    rw (← (by-round-keys key c.before.before.before.expand.ensures)) c.encipher-by.ensures
+    rw (← (by_round_keys key c.before.before.before.expand.ensures)) c.encipher-by.ensures
 
 pub encipher-spec : {M : Type 1} → statement M
 encipher-spec =

@@ -3,7 +3,7 @@ use mathlib.Core.Path.{◌∙◌, ap}
 use Prim.Native.Nat.{◌-◌}
 use borrow.Author.Rules.{rules}
 use Rattle.state.specs.State.{block_of, keyed}
-use Rattle.aes.specs.Cipher.{lastRounded, afterRounds, encipheredBy}
+use Rattle.aes.specs.Cipher.{last_rounded, after_rounds, enciphered_by}
 use Rattle.aes.proofs.encipher_by.Statement.{statement}
 use Rattle.aes.proofs.encipher_by.Tie as tie
 
@@ -23,13 +23,13 @@ block-of-requires : tie.Need-block-of-requires
 block-of-requires c κs = search rules
 
 returns : tie.Need-returns
-unfolding encipheredBy
+unfolding enciphered_by
 returns c =
     let words = c.before.before.before.before.before.args.words.now in
     let rounds = c.before.before.before.before.before.args.rounds in
     let start = c.before.before.before.add-round-key.ensures ∙ ap (keyed words 0) c.before.before.before.before.state-of.ensures in
-    let state = c.before.before.all_but_last.ensures ∙ ap (afterRounds words (rounds - 1)) start in
-    c.Block-of.ensures ∙ ap block_of (c.before.last-round.ensures ∙ ap (lastRounded words rounds) state)
+    let state = c.before.before.all_but_last.ensures ∙ ap (after_rounds words (rounds - 1)) start in
+    c.Block-of.ensures ∙ ap block_of (c.before.last-round.ensures ∙ ap (last_rounded words rounds) state)
 
 pub encipher-by-spec : {M : Type 1} → statement M
 encipher-by-spec =

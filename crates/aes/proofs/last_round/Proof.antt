@@ -1,6 +1,6 @@
 -- `aes::last_round` meets its contract: its steps are those of the definition, each applied to the result of the one before.
 use borrow.Author.Rules.{rules}
-use Rattle.aes.specs.Cipher.{lastRounded}
+use Rattle.aes.specs.Cipher.{last_rounded}
 use Rattle.aes.proofs.last_round.Statement.{statement}
 use Rattle.aes.proofs.last_round.Tie as tie
 
@@ -14,7 +14,7 @@ add-round-key-requires : tie.Need-add-round-key-requires
 add-round-key-requires c κs = search rules
 
 returns : tie.Need-returns
-unfolding lastRounded
+unfolding last_rounded
 returns c = cc
 
 pub last-round-spec : {M : Type 1} → statement M

@@ -1,7 +1,7 @@
 -- `aes::round` meets its contract: its steps are those of the definition, each applied to the result of the one before.
 use mathlib.Core.Path.{◌∙◌, ap}
 use borrow.Author.Rules.{rules}
-use Rattle.state.specs.State.{shiftedRows, mixedColumns, keyed}
+use Rattle.state.specs.State.{shifted_rows, mixed_columns, keyed}
 use Rattle.aes.specs.Cipher.{rounded}
 use Rattle.aes.proofs.round.Statement.{statement}
 use Rattle.aes.proofs.round.Tie as tie
@@ -22,8 +22,8 @@ returns : tie.Need-returns
 unfolding rounded
 returns c =
     let given = c.before.before.before.before.args in
-    let shifted = c.before.before.shift-rows.ensures ∙ ap shiftedRows c.before.before.before.sub-bytes.ensures in
-    let mixed = c.before.mix-columns.ensures ∙ ap mixedColumns shifted in
+    let shifted = c.before.before.shift-rows.ensures ∙ ap shifted_rows c.before.before.before.sub-bytes.ensures in
+    let mixed = c.before.mix-columns.ensures ∙ ap mixed_columns shifted in
     c.add-round-key.ensures ∙ ap (keyed given.words.now given.k) mixed
 
 pub round-spec : {M : Type 1} → statement M

@@ -5,17 +5,17 @@ use Prim.Native.Nat.{◌+◌, ◌/◌}
 use borrow.Author.Rules.{rules}
 use borrow.Author.Tests.{lt-ltb, le-ltb}
 use lib.ListN.{length}
-use Rattle.aes.specs.Cipher.{encipheredBy, enciphered}
-use Rattle.bench_cipher.specs.Blocks.{eachEnciphered, blocksUnder}
+use Rattle.aes.specs.Cipher.{enciphered_by, enciphered}
+use Rattle.bench_cipher.specs.Blocks.{each_enciphered, blocks_under}
 use Rattle.bench_cipher.proofs.bench_encipher.Statement.{statement}
 use Rattle.bench_cipher.proofs.bench_encipher.Tie as tie
 
 returns : tie.Need-returns
-unfolding blocksUnder
+unfolding blocks_under
 returns c = rw (lt-ltb _ 16 c.if1.true)
 
 returns-2 : tie.Need-returns-2
-unfolding blocksUnder
+unfolding blocks_under
 returns-2 c = rw (le-ltb _ 16 c.before.if1.false, lt-ltb 32 _ c.if2.true)
 
 table-requires : tie.Need-table-requires
@@ -34,7 +34,7 @@ same_length : tie.Need-same-length
 same_length c = search rules
 
 returns-3 : tie.Need-returns-3
-unfolding blocksUnder enciphered
+unfolding blocks_under enciphered
 returns-3 c =
     let done = c.before.before in
     let tested = done.before.before.before.before.before.before.before in
@@ -43,7 +43,7 @@ returns-3 c =
     rw
     (le-ltb _ 16 tested.before.if1.false, le-ltb 32 _ tested.if2.false)
     (done.encipher-all.ensures
-    ∙ ap (λ words. eachEnciphered (encipheredBy words rounds) given.blocks.now) done.before.before.before.before.expand.ensures)
+    ∙ ap (λ words. each_enciphered (enciphered_by words rounds) given.blocks.now) done.before.before.before.before.expand.ensures)
 
 pub bench-encipher-spec : {M : Type 1} → statement M
 bench-encipher-spec =

@@ -5,20 +5,20 @@ use Prim.Native.Nat.{◌-◌}
 use lib.ListN.{length}
 use native.Mathlib.Omega.{arith}
 use borrow.Author.Rules.{rules}
-use Rattle.aes.specs.Cipher.{encipheredBy}
+use Rattle.aes.specs.Cipher.{enciphered_by}
 use Rattle.aes.proofs.CipherLaws.{length-enciphered}
-use Rattle.bench_cipher.proofs.EachLaws.{Enciphering, enciphering-none, enciphering-more, enciphering-all}
+use Rattle.bench_cipher.proofs.EachLaws.{Enciphering, enciphering_none, enciphering_more, enciphering_all}
 use Rattle.bench_cipher.proofs.encipher_all.Statement.{statement}
 use Rattle.bench_cipher.proofs.encipher_all.Tie as tie
 
 abbrev invariant-loop : tie.invariant-loop
-invariant-loop table words rounds blocks₀ at₀ blocks at = Enciphering (encipheredBy words rounds) blocks₀ blocks at
+invariant-loop table words rounds blocks₀ at₀ blocks at = Enciphering (enciphered_by words rounds) blocks₀ blocks at
 
 abbrev decreases-loop : tie.decreases-loop
 decreases-loop table words rounds blocks₀ at₀ blocks at = length blocks₀ - at
 
 loop-holds : tie.Need-loop-init invariant-loop decreases-loop
-loop-holds c = enciphering-none _ _
+loop-holds c = enciphering_none _ _
 
 sub-loop : tie.Need-overflow-sub-loop invariant-loop decreases-loop
 sub-loop c = c.loop.invariant.within
@@ -47,10 +47,10 @@ loop-again c =
     let turn = made.before.before.before in
     let loop = turn.before.loop in
     let given = turn.before.before.before.args in
-    let e = encipheredBy given.words.now given.rounds in
+    let e = enciphered_by given.words.now given.rounds in
     rw
     (wrote.put-bytes.ensures, made.encipher-by.ensures, made.before.block_at.ensures)
-    (enciphering-more e (length-enciphered given.words.now given.rounds) given.blocks.now loop.blocks loop.at loop.invariant (omega arith))
+    (enciphering_more e (length-enciphered given.words.now given.rounds) given.blocks.now loop.blocks loop.at loop.invariant (omega arith))
 
 same_length : tie.Need-same-length invariant-loop decreases-loop
 same_length c = c.before.loop.invariant.kept
@@ -58,8 +58,8 @@ same_length c = c.before.loop.invariant.kept
 returns : tie.Need-returns invariant-loop decreases-loop
 returns c =
     let given = c.before.before.before.args in
-    let e = encipheredBy given.words.now given.rounds in
-    enciphering-all e (length-enciphered given.words.now given.rounds) given.blocks.now _ _ c.before.loop.invariant c.loop-test.false
+    let e = enciphered_by given.words.now given.rounds in
+    enciphering_all e (length-enciphered given.words.now given.rounds) given.blocks.now _ _ c.before.loop.invariant c.loop-test.false
 
 pub encipher-all-spec : {M : Type 1} → statement M
 encipher-all-spec =

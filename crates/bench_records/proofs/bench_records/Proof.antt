@@ -3,7 +3,7 @@ use Prim.Native.Nat.{◌-◌}
 use native.Mathlib.Omega.{arith}
 use borrow.Author.Rules.{rules}
 use lib.ListN.{length}
-use Rattle.bench_records.proofs.CountLaws.{Counting, counting-none, counting-on, counting-whole, counted}
+use Rattle.bench_records.proofs.CountLaws.{Counting, counting_none, counting_on, counting_whole, counted}
 use Rattle.bench_records.proofs.bench_records.Statement.{statement}
 use Rattle.bench_records.proofs.bench_records.Tie as tie
 
@@ -19,7 +19,7 @@ ready-requires c κs = search rules
 
 loop-holds : tie.Need-loop-init invariant-loop decreases-loop
 loop-holds c =
-    rw c.ready.ensures (counting-none _ _ _ _ _ c.before.before.requires)
+    rw c.ready.ensures (counting_none _ _ _ _ _ c.before.before.requires)
 
 scan-requires : tie.Need-scan-requires invariant-loop decreases-loop
 scan-requires c κs = search rules
@@ -42,7 +42,7 @@ loop-again : tie.Need-loop-preserved invariant-loop decreases-loop
 loop-again c =
     let inv = c.before.before.before.before.before.before.before.before.before.loop.invariant in
     let inside = c.before.before.before.before.before.before.before.before.loop-test.true in
-    rw c.ready2.ensures (counting-whole c.before.before.before.scan.ensures inv inside c.before.if1.true)
+    rw c.ready2.ensures (counting_whole c.before.before.before.scan.ensures inv inside c.before.if1.true)
 
 loop-less-2 : tie.Need-loop-smaller-2 invariant-loop decreases-loop
 loop-less-2 c =
@@ -53,7 +53,7 @@ loop-again-2 : tie.Need-loop-preserved-2 invariant-loop decreases-loop
 loop-again-2 c =
     let inv = c.before.before.before.before.before.before.before.before.loop.invariant in
     let inside = c.before.before.before.before.before.before.before.loop-test.true in
-    counting-on c.before.before.scan.ensures inv inside c.if1.false
+    counting_on c.before.before.scan.ensures inv inside c.if1.false
 
 returns : tie.Need-returns invariant-loop decreases-loop
 returns c = counted c.loop-test.false c.before.loop.invariant

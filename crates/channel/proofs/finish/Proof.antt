@@ -1,6 +1,6 @@
 -- `channel::finish` keeps its promise, refused or done.
 use mathlib.Core.Path.{◌∙◌, sym}
-use Rattle.channel_state.specs.State.{endNumber, end_of, tagOut}
+use Rattle.channel_state.specs.State.{end_number, end_of, tag_out}
 use borrow.Author.Rules.{rules}
 use Rattle.channel.proofs.finish.Statement.{statement}
 use Rattle.channel.proofs.finish.Tie as tie
@@ -9,7 +9,7 @@ is-idle-requires : tie.Need-is-idle-requires
 is-idle-requires c κs = search rules
 
 returns : tie.Need-returns
-unfolding endNumber end_of tagOut
+unfolding end_number end_of tag_out
 returns c =
     let resting = sym c.before.is-idle.ensures ∙ c.if1.true in
     record { answer = simp resting; channel = simp resting; tag = simp resting }
@@ -21,7 +21,7 @@ ended-requires : tie.Need-ended-requires
 ended-requires c κs = search rules
 
 returns-2 : tie.Need-returns-2
-unfolding endNumber end_of tagOut
+unfolding end_number end_of tag_out
 returns-2 c =
     let made = c.before in
     let going = sym made.before.before.is-idle.ensures ∙ made.before.if1.false in

@@ -1,6 +1,6 @@
 -- `channel_answers::begin_answer` meets its contract: each answer is that of the first test that held, and else the ledger's.
 use mathlib.Core.Path.{◌∙◌, sym}
-use Rattle.channel_state.specs.State.{beginNumber}
+use Rattle.channel_state.specs.State.{begin_number}
 use borrow.Author.Rules.{rules}
 use Rattle.channel_answers.proofs.begin_answer.Statement.{statement}
 use Rattle.channel_answers.proofs.begin_answer.Tie as tie
@@ -9,14 +9,14 @@ is-busy-requires : tie.Need-is-busy-requires
 is-busy-requires c κs = search rules
 
 returns : tie.Need-returns
-unfolding beginNumber
+unfolding begin_number
 returns c = simp (sym c.before.is-busy.ensures ∙ c.if1.true)
 
 ad-bad-requires : tie.Need-ad-bad-requires
 ad-bad-requires c κs = search rules
 
 returns-2 : tie.Need-returns-2
-unfolding beginNumber
+unfolding begin_number
 returns-2 c =
     let first = c.before.before in
     simp (sym first.before.is-busy.ensures ∙ first.if1.false, sym c.before.ad-bad.ensures ∙ c.if2.true)
@@ -25,7 +25,7 @@ verdict-requires : tie.Need-verdict-requires
 verdict-requires c κs = search rules
 
 returns-3 : tie.Need-returns-3
-unfolding beginNumber
+unfolding begin_number
 returns-3 c =
     let second = c.before.before in
     let first = second.before.before in

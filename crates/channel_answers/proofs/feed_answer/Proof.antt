@@ -1,6 +1,6 @@
 -- `channel_answers::feed_answer` meets its contract: each answer is that of the first test that held.
 use mathlib.Core.Path.{◌∙◌, sym}
-use Rattle.channel_state.specs.State.{feedNumber}
+use Rattle.channel_state.specs.State.{feed_number}
 use native.Mathlib.Omega.{arith}
 use borrow.Author.Rules.{rules}
 use Rattle.channel_answers.proofs.feed_answer.Statement.{statement}
@@ -10,7 +10,7 @@ is-idle-requires : tie.Need-is-idle-requires
 is-idle-requires c κs = search rules
 
 returns : tie.Need-returns
-unfolding feedNumber
+unfolding feed_number
 returns c = simp (sym c.before.is-idle.ensures ∙ c.if1.true)
 
 cast-text-bad : tie.Need-overflow-cast-text-bad
@@ -26,14 +26,14 @@ too-short-requires : tie.Need-too-short-requires
 too-short-requires c κs = search rules
 
 returns-2 : tie.Need-returns-2
-unfolding feedNumber
+unfolding feed_number
 returns-2 c =
     let asked = c.before in
     let first = asked.before.before.before in
     simp (sym first.before.is-idle.ensures ∙ first.if1.false, sym asked.before.text-bad.ensures ∙ c.if2.true)
 
 returns-3 : tie.Need-returns-3
-unfolding feedNumber
+unfolding feed_number
 returns-3 c =
     let second = c.before in
     let asked = second.before in
@@ -45,7 +45,7 @@ returns-3 c =
     )
 
 returns-4 : tie.Need-returns-4
-unfolding feedNumber
+unfolding feed_number
 returns-4 c =
     let second = c.before in
     let asked = second.before in

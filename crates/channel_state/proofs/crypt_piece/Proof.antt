@@ -1,7 +1,7 @@
 -- `channel_state::crypt_piece` meets its contract: the piece goes on where the text so far ends.
 use native.Mathlib.Omega.{arith}
 use Rattle.channel_state.specs.State.{piece_of}
-use Rattle.channel_state.proofs.StateLaws.{rounds-few}
+use Rattle.channel_state.proofs.StateLaws.{rounds_few}
 use borrow.Author.Rules.{rules}
 use Rattle.channel_state.proofs.crypt_piece.Statement.{statement}
 use Rattle.channel_state.proofs.crypt_piece.Tie as tie
@@ -19,7 +19,7 @@ crypt-at-requires : tie.Need-crypt-at-requires
 crypt-at-requires c κs =
     let known = c.before.before.before.before in
     let start = known.before.before.before.before.before.before.before in
-    let rounds = rounds-few start.args.c c.rounds-of.ensures in
+    let rounds = rounds_few start.args.c c.rounds-of.ensures in
     let text = known.struct_known.given.1.1.1.1.1.0 in
     (known.before.before.before.before.table.ensures, ((rounds, omega (arith, text)), start.requires))
 

@@ -1,6 +1,6 @@
 -- `channel_state::message_tag` meets its contract: the hash of the message xor its enciphered first block, cut.
-use Rattle.channel_state.specs.State.{messageTag}
-use Rattle.channel_state.proofs.StateLaws.{rounds-few}
+use Rattle.channel_state.specs.State.{message_tag}
+use Rattle.channel_state.proofs.StateLaws.{rounds_few}
 use borrow.Author.Rules.{rules}
 use Rattle.channel_state.proofs.message_tag.Statement.{statement}
 use Rattle.channel_state.proofs.message_tag.Tie as tie
@@ -20,7 +20,7 @@ counter-at-requires c κs = search rules
 encipher-by-requires : tie.Need-encipher-by-requires
 encipher-by-requires c κs =
     let start = c.before.before.before.before.before.before.before.before.before.before in
-    (c.before.before.before.before.before.before.before.before.before.table.ensures, rounds-few start.args.c c.before.rounds-of.ensures)
+    (c.before.before.before.before.before.before.before.before.before.table.ensures, rounds_few start.args.c c.before.rounds-of.ensures)
 
 element-of-requires : tie.Need-element-of-requires
 element-of-requires c κs = search rules
@@ -35,7 +35,7 @@ cut-requires : tie.Need-cut-requires
 cut-requires c κs = search rules
 
 returns : tie.Need-returns
-unfolding messageTag
+unfolding message_tag
 returns c =
     let masked = c.before.before.before in
     let ready = masked.before.before.before in

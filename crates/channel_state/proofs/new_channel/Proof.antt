@@ -2,10 +2,10 @@
 use mathlib.Core.Path.{◌∙◌, ap}
 use Prim.Native.Nat.{◌+◌, ◌/◌}
 use lib.ListN.{length}
-use Rattle.aes.specs.Cipher.{encipheredBy, enciphered}
-use Rattle.hash_field.proofs.ElementLaws.{element-is}
-use Rattle.mode.specs.Mode.{hashKey}
-use Rattle.channel_state.specs.State.{newChannel}
+use Rattle.aes.specs.Cipher.{enciphered_by, enciphered}
+use Rattle.hash_field.proofs.ElementLaws.{element_is}
+use Rattle.mode.specs.Mode.{hash_key}
+use Rattle.channel_state.specs.State.{new_channel}
 use borrow.Author.Rules.{rules}
 use Rattle.channel_state.proofs.new_channel.Statement.{statement}
 use Rattle.channel_state.proofs.new_channel.Tie as tie
@@ -35,14 +35,14 @@ no-message-requires : tie.Need-no-message-requires
 no-message-requires c κs = search rules
 
 returns : tie.Need-returns
-unfolding newChannel enciphered
+unfolding new_channel enciphered
 returns c =
     let given = c.before.before.before.before.before.before.before.before.before.before.args in
     let rounds = length given.key.now / 4 + 6 in
     let made = c.before.before.before.hash-key in
     let words = c.before.before.before.before.before.before.expand.ensures in
-    let value = made.ensures ∙ ap (λ w. hashKey (encipheredBy w rounds)) words in
-    rw (element-is made.result (search (rules, made.type-inv)) value, words, c.before.fresh.ensures, c.no-message.ensures)
+    let value = made.ensures ∙ ap (λ w. hash_key (enciphered_by w rounds)) words in
+    rw (element_is made.result (search (rules, made.type-inv)) value, words, c.before.fresh.ensures, c.no-message.ensures)
 
 pub new-channel-spec : {M : Type 1} → statement M
 new-channel-spec =

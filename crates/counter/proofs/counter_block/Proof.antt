@@ -1,5 +1,5 @@
 -- `counter::counter_block` meets its contract: the definition is its code.
-use Rattle.counter.specs.Counter.{counterBlock}
+use Rattle.counter.specs.Counter.{counter_block}
 use Rattle.std.proofs.Common.{rules}
 use Rattle.counter.proofs.counter_block.Statement.{statement}
 use Rattle.counter.proofs.counter_block.Tie as tie
@@ -47,7 +47,7 @@ block-from-requires : tie.Need-block-from-requires
 block-from-requires c κs = search rules
 
 returns : tie.Need-returns
-unfolding counterBlock
+unfolding counter_block
 returns c = rw (c.block-from.ensures, c.before.bytes.ensures)
 
 pub counter-block-spec : {M : Type 1} → statement M

@@ -1,21 +1,21 @@
 -- `counter::crypt` meets its contract. The invariant: the place reached, with what stands in front of it and what is still to
 -- come. Each turn goes one block further.
 use Rattle.std.proofs.Common.{◌-◌, length, ap, ◌∙◌, arith}
-use Rattle.aes.specs.Cipher.{encipheredBy}
+use Rattle.aes.specs.Cipher.{enciphered_by}
 use Rattle.aes.proofs.CipherLaws.{length-enciphered}
-use Rattle.counter.proofs.CryptLaws.{Reached, reached-none, reached-more, reached-all}
+use Rattle.counter.proofs.CryptLaws.{Reached, reached_none, reached-more, reached_all}
 use Rattle.counter.proofs.crypt.Statement.{statement}
 use Rattle.counter.proofs.crypt.Tie as tie
 
 abbrev invariant-loop : tie.invariant-loop
 invariant-loop out₀ table words rounds text counter₀ at₀ out counter at =
-    Reached (encipheredBy words rounds) counter₀ text out₀ counter out at
+    Reached (enciphered_by words rounds) counter₀ text out₀ counter out at
 
 abbrev decreases-loop : tie.decreases-loop
 decreases-loop out₀ table words rounds text counter₀ at₀ out counter at = length text - at
 
 loop-holds : tie.Need-loop-init invariant-loop decreases-loop
-loop-holds c = reached-none _ _ _ _
+loop-holds c = reached_none _ _ _ _
 
 step-requires : tie.Need-step-requires invariant-loop decreases-loop
 step-requires c κs = tt
@@ -62,7 +62,7 @@ same_length c = c.before.loop.invariant.kept
 returns : tie.Need-returns invariant-loop decreases-loop
 returns c =
     let given = c.before.before.before.before.args in
-    reached-all _ (length-enciphered given.words.now given.rounds) _ _ _ _ _ _ c.loop-test.false c.before.loop.invariant
+    reached_all _ (length-enciphered given.words.now given.rounds) _ _ _ _ _ _ c.loop-test.false c.before.loop.invariant
 
 pub crypt-spec : {M : Type 1} → statement M
 crypt-spec =

@@ -1,6 +1,6 @@
 -- `counter::step` meets its contract: the word of the last four bytes has one added, as the definition has it.
 use Rattle.std.proofs.Common.{◌+◌, ◌%◌, ◌^◌, ap, ◌∙◌, rules}
-use Rattle.counter.specs.Counter.{counterBlock, stepped}
+use Rattle.counter.specs.Counter.{counter_block, stepped}
 use Rattle.counter.proofs.step.Statement.{statement}
 use Rattle.counter.proofs.step.Tie as tie
 
@@ -32,7 +32,7 @@ returns : tie.Need-returns
 unfolding stepped
 returns c =
     let more = c.before.wrapping-add-u32.ensures ∙ ap (λ w. (w + 1) % 2 ^ 32) c.before.before.before.word.ensures in
-    c.counter-block.ensures ∙ ap (counterBlock c.before.before.before.before.args.t1) more
+    c.counter-block.ensures ∙ ap (counter_block c.before.before.before.before.args.t1) more
 
 pub step_spec : {M : Type 1} → statement M
 step_spec =

@@ -4,7 +4,7 @@ use Rattle.std.proofs.Common.{◌≡◌, ℕ, ◌+◌, ◌-◌, ◌<◌, ◌≤�
 use lib.Bits.{bit_xor}
 use lib.Seq.{paste, paste-zero, paste-suc}
 use Rattle.octets.specs.Bytes.{xored}
-use Rattle.octets.proofs.BytesLaws.{length-xored, getD-xored}
+use Rattle.octets.proofs.BytesLaws.{length-xored, get_or-xored}
 use Rattle.counter.proofs.xor_into.Statement.{statement}
 use Rattle.counter.proofs.xor_into.Tie as tie
 
@@ -15,7 +15,7 @@ more : (out₀ text block out : List ℕ) (at i : ℕ) → at + i < length out�
 more out₀ text block out at i in-out in-text in_block so_far =
     let in_rest : i < length (drop at text) = simp length-drop (omega arith) in
     let in-xor : i < length (xored (drop at text) block) = simp length-xored (omega arith) in
-    let byte = getD-xored (drop at text) block i in_rest in_block ∙ ap (λ b. bit_xor b (get_or block i 0)) (get_or-drop at text i 0) in
+    let byte = get_or-xored (drop at text) block i in_rest in_block ∙ ap (λ b. bit_xor b (get_or block i 0)) (get_or-drop at text i 0) in
     ap₂ (λ o b. set o (at + i) b) so_far (sym byte)
     ∙ paste-suc out₀ at (xored (drop at text) block) i 0 in-out in-xor
     ∙ ap (paste out₀ at (xored (drop at text) block)) (sym (add-one i))

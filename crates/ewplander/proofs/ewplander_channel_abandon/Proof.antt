@@ -5,7 +5,7 @@ use base.Logic.{id⊢}
 use Rattle.told.specs.contracts.abandoned as g
 use Rattle.told.proofs.abandoned.Symbol as g-def
 use Rattle.told.proofs.abandoned.Met as g-thm
-use Rattle.lent.proofs.LentLaws.{lent-proved}
+use Rattle.lent.proofs.LentLaws.{lent_proved}
 use Rattle.ewplander.proofs.ChannelLent.{channel}
 use Rattle.ewplander.specs.contracts.ewplander_channel_abandon as f
 use Rattle.ewplander.specs.contracts.ewplander_channel_abandon.Key as key
@@ -15,7 +15,7 @@ use Rattle.ewplander.proofs.ewplander_channel_abandon.Code as code
 pub ewplander-channel-abandon-spec : {M : Type 1} → stated.statement M
 unfolding code.routine
 ewplander-channel-abandon-spec 𝓤 𝓛 𝓜 𝓡 =
-    lent-proved 𝓛 𝓜 𝓡 true channel g.signature (λ κs a. (f.clauses 𝓛 𝓜.mem 𝓡.run κs a).ensures tt)
+    lent_proved 𝓛 𝓜 𝓡 true channel g.signature (λ κs a. (f.clauses 𝓛 𝓜.mem 𝓡.run κs a).ensures tt)
     (λ κs a. (g.clauses 𝓛 𝓜.mem 𝓡.run κs a).ensures tt) code.env code.function g-def.name
     (λ κs x a r ws. id⊢ 𝓤 _) (λ κs. tt)
     (λ κs a t. record { body_is = refl; fits = λ bs b o u. (((tt, tt), t), tt, refl, tt, refl) })

@@ -7,7 +7,7 @@ use denote.Builtin.{u8}
 use Rattle.told.specs.contracts.begun as g
 use Rattle.told.proofs.begun.Symbol as g-def
 use Rattle.told.proofs.begun.Met as g-thm
-use Rattle.lent.proofs.LentLaws.{lent-proved, slice_in, word}
+use Rattle.lent.proofs.LentLaws.{lent_proved, slice_in, word}
 use Rattle.ewplander.proofs.ChannelLent.{channel}
 use Rattle.ewplander.specs.contracts.ewplander_channel_begin as f
 use Rattle.ewplander.specs.contracts.ewplander_channel_begin.Key as key
@@ -17,7 +17,7 @@ use Rattle.ewplander.proofs.ewplander_channel_begin.Code as code
 pub ewplander-channel-begin-spec : {M : Type 1} → stated.statement M
 unfolding code.routine
 ewplander-channel-begin-spec 𝓤 𝓛 𝓜 𝓡 =
-    lent-proved 𝓛 𝓜 𝓡 true channel g.signature (λ κs a. (f.clauses 𝓛 𝓜.mem 𝓡.run κs a).ensures tt)
+    lent_proved 𝓛 𝓜 𝓡 true channel g.signature (λ κs a. (f.clauses 𝓛 𝓜.mem 𝓡.run κs a).ensures tt)
     (λ κs a. (g.clauses 𝓛 𝓜.mem 𝓡.run κs a).ensures tt) code.env code.function g-def.name
     (λ κs x a r ws. id⊢ 𝓤 _) (λ κs. (word w64, (slice_in u8, tt)))
     (λ κs a t. record { body_is = refl; fits = λ bs b o u. (((tt, tt), t), tt, refl, tt, refl) })

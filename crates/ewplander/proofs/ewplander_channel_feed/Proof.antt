@@ -6,7 +6,7 @@ use denote.Builtin.{u8, usize}
 use Rattle.told.specs.contracts.fed as g
 use Rattle.told.proofs.fed.Symbol as g-def
 use Rattle.told.proofs.fed.Met as g-thm
-use Rattle.lent.proofs.LentLaws.{lent-proved, lent_out, slice_in, slice_out}
+use Rattle.lent.proofs.LentLaws.{lent_proved, lent_out, slice_in, slice_out}
 use Rattle.ewplander.proofs.ChannelLent.{channel}
 use Rattle.ewplander.specs.contracts.ewplander_channel_feed as f
 use Rattle.ewplander.specs.contracts.ewplander_channel_feed.Key as key
@@ -16,7 +16,7 @@ use Rattle.ewplander.proofs.ewplander_channel_feed.Code as code
 pub ewplander-channel-feed-spec : {M : Type 1} → stated.statement M
 unfolding code.routine
 ewplander-channel-feed-spec 𝓤 𝓛 𝓜 𝓡 =
-    lent-proved 𝓛 𝓜 𝓡 true channel g.signature (λ κs a. (f.clauses 𝓛 𝓜.mem 𝓡.run κs a).ensures tt)
+    lent_proved 𝓛 𝓜 𝓡 true channel g.signature (λ κs a. (f.clauses 𝓛 𝓜.mem 𝓡.run κs a).ensures tt)
     (λ κs a. (g.clauses 𝓛 𝓜.mem 𝓡.run κs a).ensures tt) code.env code.function g-def.name
     (λ κs x a r ws. id⊢ 𝓤 _) (λ κs. (slice_in u8, (slice_out u8, (lent_out usize, tt))))
     (λ κs a t. record {

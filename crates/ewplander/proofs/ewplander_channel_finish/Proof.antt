@@ -6,7 +6,7 @@ use denote.Builtin.{Array, u8}
 use Rattle.told.specs.contracts.finished as g
 use Rattle.told.proofs.finished.Symbol as g-def
 use Rattle.told.proofs.finished.Met as g-thm
-use Rattle.lent.proofs.LentLaws.{lent-proved, lent_out}
+use Rattle.lent.proofs.LentLaws.{lent_proved, lent_out}
 use Rattle.ewplander.proofs.ChannelLent.{channel}
 use Rattle.ewplander.specs.contracts.ewplander_channel_finish as f
 use Rattle.ewplander.specs.contracts.ewplander_channel_finish.Key as key
@@ -16,7 +16,7 @@ use Rattle.ewplander.proofs.ewplander_channel_finish.Code as code
 pub ewplander-channel-finish-spec : {M : Type 1} → stated.statement M
 unfolding code.routine
 ewplander-channel-finish-spec 𝓤 𝓛 𝓜 𝓡 =
-    lent-proved 𝓛 𝓜 𝓡 true channel g.signature (λ κs a. (f.clauses 𝓛 𝓜.mem 𝓡.run κs a).ensures tt)
+    lent_proved 𝓛 𝓜 𝓡 true channel g.signature (λ κs a. (f.clauses 𝓛 𝓜.mem 𝓡.run κs a).ensures tt)
     (λ κs a. (g.clauses 𝓛 𝓜.mem 𝓡.run κs a).ensures tt) code.env code.function g-def.name
     (λ κs x a r ws. id⊢ 𝓤 _) (λ κs. (lent_out (Array u8 tt 16), tt))
     (λ κs a t. record { body_is = refl; fits = λ bs b o u. (((tt, tt), t), tt, refl, (tt, refl, tt), refl) })

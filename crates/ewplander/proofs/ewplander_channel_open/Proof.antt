@@ -7,7 +7,7 @@ use denote.Builtin.{Array, u8}
 use Rattle.told.specs.contracts.opened as g
 use Rattle.told.proofs.opened.Symbol as g-def
 use Rattle.told.proofs.opened.Met as g-thm
-use Rattle.lent.proofs.LentLaws.{lent-proved, lent-in, slice_in, word}
+use Rattle.lent.proofs.LentLaws.{lent_proved, lent_in, slice_in, word}
 use Rattle.ewplander.proofs.ChannelLent.{channel}
 use Rattle.ewplander.specs.contracts.ewplander_channel_open as f
 use Rattle.ewplander.specs.contracts.ewplander_channel_open.Key as key
@@ -17,8 +17,8 @@ use Rattle.ewplander.proofs.ewplander_channel_open.Code as code
 pub ewplander-channel-open-spec : {M : Type 1} → stated.statement M
 unfolding code.routine
 ewplander-channel-open-spec 𝓤 𝓛 𝓜 𝓡 =
-    lent-proved 𝓛 𝓜 𝓡 false channel g.signature (λ κs a. (f.clauses 𝓛 𝓜.mem 𝓡.run κs a).ensures tt)
+    lent_proved 𝓛 𝓜 𝓡 false channel g.signature (λ κs a. (f.clauses 𝓛 𝓜.mem 𝓡.run κs a).ensures tt)
     (λ κs a. (g.clauses 𝓛 𝓜.mem 𝓡.run κs a).ensures tt) code.env code.function g-def.name
-    (λ κs x a r ws. id⊢ 𝓤 _) (λ κs. (slice_in u8, (lent-in (Array u8 tt 4), (word w64, tt))))
+    (λ κs x a r ws. id⊢ 𝓤 _) (λ κs. (slice_in u8, (lent_in (Array u8 tt 4), (word w64, tt))))
     (λ κs a t. record { body_is = refl; fits = λ bs b o u. (((tt, tt), t), tt, refl, tt, refl) })
     key.name (code.unfolded 𝓤 𝓛.H 𝓜 𝓡) g-def.routine code.calls-told::opened (g-thm.met 𝓤 𝓛 𝓜 𝓡)

@@ -4,11 +4,11 @@ use mathlib.Core.List.{[]}
 use Prim.Native.Nat.{◌-◌, ◌≤◌}
 use native.Mathlib.Omega.{arith}
 use lib.ListN.{length}
-use Rattle.answer.proofs.DoneLaws.{was-done}
+use Rattle.answer.proofs.DoneLaws.{was_done}
 use Rattle.rows.specs.Passed.{Passed}
-use Rattle.rows.specs.Rows.{lowest, openLengthRows}
-use Rattle.rows.proofs.LengthLaws.{open-allows}
-use Rattle.gcm.proofs.PromiseLaws.{open-refused, open-differs, open_done}
+use Rattle.rows.specs.Rows.{lowest, open_length_rows}
+use Rattle.rows.proofs.LengthLaws.{open_allows}
+use Rattle.gcm.proofs.PromiseLaws.{open_refused, open_differs, open_done}
 use borrow.Author.Rules.{rules}
 use Rattle.gcm.proofs.open.Statement.{statement}
 use Rattle.gcm.proofs.open.Tie as tie
@@ -17,9 +17,9 @@ abbrev start : tie.Else1 → tie.Start
 start c = c.before.before.before.before.before.before.before.before
 
 clear : (c : tie.Else1)
-    → lowest 1 (openLengthRows (length (start c).args.key.now) (length (start c).args.iv.now) (length (start c).args.ad.now)
+    → lowest 1 (open_length_rows (length (start c).args.key.now) (length (start c).args.iv.now) (length (start c).args.ad.now)
     (length (start c).args.sealed.now) (start c).args.tag-len (length (start c).args.out.now)) ≡ 0
-clear c = was-done _ c.before.before.open-answer.ensures c.before.is-done.ensures c.if1.false
+clear c = was_done _ c.before.before.open-answer.ensures c.before.is-done.ensures c.if1.false
 
 abbrev Allowed : tie.Start → Type 0
 Allowed c =
@@ -27,7 +27,7 @@ Allowed c =
     × ((c.args.tag-len ≤ length c.args.sealed.now) × (length c.args.sealed.now - c.args.tag-len ≤ length c.args.out.now))
 
 allowed : (c : tie.Else1) → Allowed (start c)
-allowed c = open-allows _ _ _ _ _ _ [] (clear c)
+allowed c = open_allows _ _ _ _ _ _ [] (clear c)
 
 open-answer-requires : tie.Need-open-answer-requires
 open-answer-requires c κs = search rules
@@ -39,7 +39,7 @@ returns : tie.Need-returns
 returns c =
     let asked = c.before.before in
     let given = asked.before.before.before.before.before.before.args in
-    open-refused given.key.now given.iv.now given.ad.now given.sealed.now given.tag-len given.out.now
+    open_refused given.key.now given.iv.now given.ad.now given.sealed.now given.tag-len given.out.now
     asked.open-answer.ensures c.before.is-done.ensures c.if1.true
 
 open-allowed-requires : tie.Need-open-allowed-requires
@@ -53,7 +53,7 @@ returns-2 c =
     let tried = c.before.before.before in
     let on = tried.before.before in
     let given = (start on).args in
-    open-differs given.key.now given.iv.now given.ad.now given.sealed.now given.tag-len given.out.now
+    open_differs given.key.now given.iv.now given.ad.now given.sealed.now given.tag-len given.out.now
     (clear on) tried.open-allowed.ensures c.if2.true
 
 sub-t9 : tie.Need-overflow-sub-t9

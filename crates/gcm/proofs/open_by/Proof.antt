@@ -4,7 +4,7 @@ use native.Mathlib.Omega.{arith}
 use borrow.Author.Rules.{part_to_end}
 use lib.ListN.{length, length-take}
 use Rattle.aes.proofs.CipherLaws.{length-enciphered}
-use Rattle.gcm.proofs.SealLaws.{refused-in-place, opened-in-place}
+use Rattle.gcm.proofs.SealLaws.{refused_in_place, opened_in_place}
 use borrow.Author.Rules.{rules}
 use Rattle.gcm.proofs.open_by.Statement.{statement}
 use Rattle.gcm.proofs.open_by.Tie as tie
@@ -24,7 +24,7 @@ slice-aggregate-tag c = simp length-take (omega arith)
 tag-requires : tie.Need-tag-requires
 tag-requires c κs =
     let pre = c.before.before.before.before.before.before.before.requires in
-    (pre.0, (pre.1.0, (omega (arith, pre.1.1.0.long-ad), simp length-take (omega (arith, pre.1.1.0.long-text)))))
+    (pre.0, (pre.1.0, (omega (arith, pre.1.1.0.long_ad), simp length-take (omega (arith, pre.1.1.0.long_text)))))
 
 sub-same-tag : tie.Need-overflow-sub-same-tag
 sub-same-tag c = search rules
@@ -44,7 +44,7 @@ returns c =
     let first = made.before.before in
     let start = first.before.before.before.before.before.before in
     let given = start.args in
-    refused-in-place _ (length-enciphered given.words.now given.rounds)
+    refused_in_place _ (length-enciphered given.words.now given.rounds)
     given.iv.now given.ad.now given.tag-len first.before.hash-key.ensures first.First-Block.ensures
     given.sealed.now given.out.now start.requires.1.1.1.0 made.tag.ensures
     (part_to_end given.sealed.now (length given.sealed.now - given.tag-len)) c.before.same_tag.ensures c.if1.true
@@ -68,7 +68,7 @@ returns-2 c =
     let first = made.before.before in
     let start = first.before.before.before.before.before.before in
     let given = start.args in
-    opened-in-place _ (length-enciphered given.words.now given.rounds)
+    opened_in_place _ (length-enciphered given.words.now given.rounds)
     given.iv.now given.ad.now given.tag-len first.before.hash-key.ensures first.First-Block.ensures
     given.sealed.now given.out.now start.requires.1.1.1.0 made.tag.ensures
     (part_to_end given.sealed.now (length given.sealed.now - given.tag-len)) on.before.same_tag.ensures on.if1.false

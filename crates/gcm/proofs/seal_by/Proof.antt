@@ -2,7 +2,7 @@
 use native.Mathlib.Omega.{arith}
 use lib.ListN.{length-take}
 use Rattle.aes.proofs.CipherLaws.{length-enciphered}
-use Rattle.gcm.proofs.SealLaws.{sealed-in-place}
+use Rattle.gcm.proofs.SealLaws.{sealed_in_place}
 use borrow.Author.Rules.{rules}
 use Rattle.gcm.proofs.seal_by.Statement.{statement}
 use Rattle.gcm.proofs.seal_by.Tie as tie
@@ -28,7 +28,7 @@ slice-aggregate-tag c =
 tag-requires : tie.Need-tag-requires
 tag-requires c κs =
     let pre = c.before.before.before.before.before.before.before.before.before.before.before.requires in
-    (pre.0, (pre.1.0, (omega (arith, pre.1.1.0.long-ad), simp length-take (omega (arith, pre.1.1.0.long-text)))))
+    (pre.0, (pre.1.0, (omega (arith, pre.1.1.0.long_ad), simp length-take (omega (arith, pre.1.1.0.long_text)))))
 
 put-bytes-requires : tie.Need-put-bytes-requires
 put-bytes-requires c κs = search rules
@@ -43,7 +43,7 @@ returns c =
     let wrote = made.before.before.before.before in
     let first = wrote.before.before in
     let given = first.before.before.before.before.before.before.args in
-    sealed-in-place _ (length-enciphered given.words.now given.rounds) given.iv.now given.ad.now given.tag-len
+    sealed_in_place _ (length-enciphered given.words.now given.rounds) given.iv.now given.ad.now given.tag-len
     first.before.hash-key.ensures first.First-Block.ensures given.text.now given.out.now
     wrote.crypt.ensures made.tag.ensures put.put-bytes.ensures
 

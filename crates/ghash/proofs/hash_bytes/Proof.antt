@@ -8,15 +8,15 @@ use lib.ListN.{length, drop}
 use Rattle.octets.specs.Block.{number_at, padded}
 use Rattle.hash_field.specs.Element.{value_of}
 use Rattle.hash_field.specs.Field.{product}
-use Rattle.ghash.specs.Hash.{hashFrom}
-use Rattle.ghash.proofs.HashLaws.{hash-block, hash-end}
+use Rattle.ghash.specs.Hash.{hash_from}
+use Rattle.ghash.proofs.HashLaws.{hash_block, hash_end}
 use Rattle.ghash.proofs.hash_bytes.Statement.{statement}
 use Rattle.ghash.proofs.hash_bytes.Tie as tie
 
 abbrev invariant-loop : tie.invariant-loop
 invariant-loop h s state₀ at₀ state at =
     (at ≤ length s)
-    × (hashFrom (value_of h) (value_of state) (padded (drop at s)) ≡ hashFrom (value_of h) (value_of state₀) (padded s))
+    × (hash_from (value_of h) (value_of state) (padded (drop at s)) ≡ hash_from (value_of h) (value_of state₀) (padded s))
 
 abbrev decreases-loop : tie.decreases-loop
 decreases-loop h s state₀ at₀ state at = length s - at
@@ -48,8 +48,8 @@ loop-again c =
     let at = c.before.before.before.loop.at in
     let block = ap (λ (x : ℕ). product (bit_xor state x) h) c.before.element-at.ensures in (
       omega arith,
-      ap (λ (r : ℕ). hashFrom h r (padded (drop (at + 16) s))) (c.absorb.ensures ∙ block)
-          ∙ sym (hash-block h state s at (omega arith))
+      ap (λ (r : ℕ). hash_from h r (padded (drop (at + 16) s))) (c.absorb.ensures ∙ block)
+          ∙ sym (hash_block h state s at (omega arith))
           ∙ c.before.before.before.loop.invariant.1,
     )
 
@@ -67,8 +67,8 @@ returns c =
     let state = value_of c.before.before.before.before.loop.state in
     let at = c.before.before.before.before.loop.at in
     let block = ap (λ (x : ℕ). product (bit_xor state x) h) c.before.element-at2.ensures in
-    c.absorb2.ensures ∙ block ∙ sym (hash-end h (product (bit_xor state (number_at s at)) h) s (at + 16) (omega arith))
-    ∙ sym (hash-block h state s at (omega arith))
+    c.absorb2.ensures ∙ block ∙ sym (hash_end h (product (bit_xor state (number_at s at)) h) s (at + 16) (omega arith))
+    ∙ sym (hash_block h state s at (omega arith))
     ∙ c.before.before.before.before.loop.invariant.1
 
 returns-2 : tie.Need-returns-2 invariant-loop decreases-loop
@@ -77,7 +77,7 @@ returns-2 c =
     let h = value_of given.h in
     let s = given.s.now in
     let state = value_of c.before.before.loop.state in
-    sym (hash-end h state s c.before.before.loop.at (omega arith)) ∙ c.before.before.loop.invariant.1
+    sym (hash_end h state s c.before.before.loop.at (omega arith)) ∙ c.before.before.loop.invariant.1
 
 pub hash-bytes-spec : {M : Type 1} → statement M
 hash-bytes-spec =

@@ -4,9 +4,9 @@ use Prim.Native.Nat.{ℕ, suc, ◌≤◌, ◌-◌}
 use native.Mathlib.Omega.{arith}
 use borrow.Author.Rules.{rules}
 use lib.Bits.{bit_xor}
-use Rattle.hash_field.specs.Element.{value_of, timesPower}
+use Rattle.hash_field.specs.Element.{value_of, times_power}
 use Rattle.hash_field.specs.Field.{sum_of}
-use Rattle.hash_field.proofs.SumLaws.{sum-none, sum_step, power-none, power-step}
+use Rattle.hash_field.proofs.SumLaws.{sum_none, sum_step, power_none, power_step}
 use Rattle.hash_field.proofs.add_powers.Statement.{statement}
 use Rattle.hash_field.proofs.add_powers.Tie as tie
 
@@ -14,7 +14,7 @@ abbrev invariant-loop : tie.invariant-loop
 invariant-loop bits so-far₀ power₀ left₀ so_far power left =
     (left ≤ 64)
     × (bit_xor (value_of so_far) (sum_of left bits (value_of power)) ≡ bit_xor (value_of so-far₀) (sum_of 64 bits (value_of power₀)))
-    × (timesPower left (value_of power) ≡ timesPower 64 (value_of power₀))
+    × (times_power left (value_of power) ≡ times_power 64 (value_of power₀))
 
 abbrev decreases-loop : tie.decreases-loop
 decreases-loop bits so-far₀ power₀ left₀ so_far power left = left
@@ -57,7 +57,7 @@ loop-again c =
       ap₂ (λ (s y : ℕ). bit_xor s (sum_of (left - 1) bits y)) more next ∙ sum_step (left - 1) bits sum power
           ∙ ap (λ (k : ℕ). bit_xor sum (sum_of k bits power)) again
           ∙ inv.1,
-      ap (timesPower (left - 1)) next ∙ power-step (left - 1) power ∙ ap (λ (k : ℕ). timesPower k power) again ∙ inv.2,
+      ap (times_power (left - 1)) next ∙ power_step (left - 1) power ∙ ap (λ (k : ℕ). times_power k power) again ∙ inv.2,
     )
 
 returns : tie.Need-returns invariant-loop decreases-loop
@@ -67,8 +67,8 @@ returns c =
     let power = value_of c.before.loop.power in
     let inv = c.before.loop.invariant in
     let none : 0 ≡ c.before.loop.left = omega arith in (
-      sum-none bits sum power ∙ ap (λ (k : ℕ). bit_xor sum (sum_of k bits power)) none ∙ inv.1,
-      power-none power ∙ ap (λ (k : ℕ). timesPower k power) none ∙ inv.2,
+      sum_none bits sum power ∙ ap (λ (k : ℕ). bit_xor sum (sum_of k bits power)) none ∙ inv.1,
+      power_none power ∙ ap (λ (k : ℕ). times_power k power) none ∙ inv.2,
     )
 
 pub add-powers-spec : {M : Type 1} → statement M

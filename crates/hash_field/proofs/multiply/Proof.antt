@@ -5,7 +5,7 @@ use native.Mathlib.Omega.{arith}
 use lib.Bits.{bit_xor}
 use Rattle.hash_field.specs.Element.{value_of}
 use Rattle.hash_field.specs.Field.{sum_of}
-use Rattle.hash_field.proofs.SumLaws.{product-halves}
+use Rattle.hash_field.proofs.SumLaws.{product_halves}
 use borrow.Author.Rules.{rules}
 use Rattle.hash_field.proofs.multiply.Statement.{statement}
 use Rattle.hash_field.proofs.multiply.Tie as tie
@@ -24,7 +24,7 @@ returns c =
     let upper = c.before.before.add-powers.ensures in
     let lower = c.before.add-powers2.ensures in
     lower.0 ∙ ap₂ (λ (s p : ℕ). bit_xor s (sum_of 64 x.low p)) upper.0 upper.1
-    ∙ sym (product-halves x.high x.low y (omega arith))
+    ∙ sym (product_halves x.high x.low y (omega arith))
 
 pub multiply-spec : {M : Type 1} → statement M
 multiply-spec = tie.close (tie.spec add-powers-requires add-powers-requires-2 returns)

@@ -8,7 +8,7 @@ use borrow.Author.Rules.{rules}
 use lib.Bits.{bit_xor, bit_or, block_half, block_odd, xor_block, xor_zero_r, or_shifted_r}
 use lib.Pow.{pow_pos, low}
 use Rattle.hash_field.specs.Element.{value_of}
-use Rattle.hash_field.specs.Field.{timesA}
+use Rattle.hash_field.specs.Field.{times_a}
 use Rattle.hash_field.proofs.times_a.Statement.{statement}
 use Rattle.hash_field.proofs.times_a.Tie as tie
 
@@ -17,8 +17,8 @@ abbrev top : ℕ
 top = 0xe1 * 2 ^ 56
 
 halved : (h l : ℕ) → l < 2 ^ 64
-    → timesA (h * 2 ^ 64 + l) ≡ bit_xor (h / 2) (l % 2 * top) * 2 ^ 64 + bit_or (l / 2) (h * 2 ^ 63 % 2 ^ 64)
-unfolding timesA
+    → times_a (h * 2 ^ 64 + l) ≡ bit_xor (h / 2) (l % 2 * top) * 2 ^ 64 + bit_or (l / 2) (h * 2 ^ 63 % 2 ^ 64)
+unfolding times_a
 halved h l below =
     let lower = h % 2 * 2 ^ 63 + l / 2 in
     let carried : h * 2 ^ 63 + l / 2 ≡ h / 2 * 2 ^ 64 + lower = omega arith in

@@ -4,12 +4,12 @@ use Prim.Native.Nat.{ℕ, ◌+◌, ◌*◌, ◌^◌, ◌<◌}
 use native.Mathlib.Nat.{mul-add, mul_assoc, lt_of_le_of_lt}
 use native.Mathlib.Omega.{arith}
 use Rattle.hash_field.specs.Element.{value_of}
-use Rattle.hash_field.proofs.SumLaws.{bit-times-le}
+use Rattle.hash_field.proofs.SumLaws.{bit_times_le}
 use Rattle.hash_field.proofs.times_bit.Statement.{statement}
 use Rattle.hash_field.proofs.times_bit.Tie as tie
 
 kept : (bit n : ℕ) → bit < 2 → n < 2 ^ 64 → bit * n < 2 ^ 64
-kept bit n h below = lt_of_le_of_lt (bit-times-le bit n h) below
+kept bit n h below = lt_of_le_of_lt (bit_times_le bit n h) below
 
 spread : (bit h l : ℕ) → bit * h * 2 ^ 64 + bit * l ≡ bit * (h * 2 ^ 64 + l)
 spread bit h l = ap (λ (x : ℕ). x + bit * l) (mul_assoc bit h (2 ^ 64)) ∙ sym (mul-add bit (h * 2 ^ 64) l)

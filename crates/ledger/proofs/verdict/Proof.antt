@@ -5,16 +5,16 @@ use native.Mathlib.Omega.{arith}
 use borrow.Author.Rules.{rules}
 use borrow.Author.Tests.{lt-ltb, le-ltb, le-leb, lt-leb}
 use Rattle.ledger.specs.History.{reach}
-use Rattle.ledger.specs.Ledger.{verdictOf}
+use Rattle.ledger.specs.Ledger.{verdict_of}
 use Rattle.ledger.proofs.verdict.Statement.{statement}
 use Rattle.ledger.proofs.verdict.Tie as tie
 
 returns : tie.Need-returns
-unfolding verdictOf
+unfolding verdict_of
 returns c = simp (lt-ltb c.before.before.args.l.high c.before.before.args.n (omega arith))
 
 returns-2 : tie.Need-returns-2
-unfolding verdictOf
+unfolding verdict_of
 returns-2 c =
     let l = c.before.before.before.before.args.l in
     let n = c.before.before.before.before.args.n in
@@ -24,7 +24,7 @@ has-mark-requires : tie.Need-has-mark-requires
 has-mark-requires c κs = search rules
 
 returns-3 : tie.Need-returns-3
-unfolding verdictOf
+unfolding verdict_of
 returns-3 c =
     let l = c.before.before.before.before.before.before.args.l in
     let n = c.before.before.before.before.before.before.args.n in
@@ -35,7 +35,7 @@ returns-3 c =
     )
 
 returns-4 : tie.Need-returns-4
-unfolding verdictOf
+unfolding verdict_of
 returns-4 c =
     let l = c.before.before.before.before.before.before.args.l in
     let n = c.before.before.before.before.before.before.args.n in

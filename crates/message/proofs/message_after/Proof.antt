@@ -2,7 +2,7 @@
 use mathlib.Core.Path.{◌≡◌}
 use native.Mathlib.Omega.{arith}
 use lib.ListN.{length, length-take}
-use Rattle.message.specs.Message.{messageAfter}
+use Rattle.message.specs.Message.{message_after}
 use borrow.Author.Rules.{rules}
 use Rattle.message.proofs.message_after.Statement.{statement}
 use Rattle.message.proofs.message_after.Tie as tie
@@ -30,7 +30,7 @@ add-t14 : tie.Need-overflow-add-t14
 add-t14 c = search rules
 
 returns : tie.Need-returns
-unfolding messageAfter
+unfolding message_after
 returns c =
     let state = c.before.before.before.absorb-bytes.ensures in
     rw (state.sum, state.part)

@@ -1,6 +1,6 @@
 -- `message::message_begun` meets its contract: the hash of the associated data, and no text yet.
 use Rattle.hash_field.specs.Element.{value_of}
-use Rattle.hash_field.proofs.ElementLaws.{element-is}
+use Rattle.hash_field.proofs.ElementLaws.{element_is}
 use borrow.Author.Rules.{rules}
 use Rattle.message.proofs.message_begun.Statement.{statement}
 use Rattle.message.proofs.message_begun.Tie as tie
@@ -15,7 +15,7 @@ returns : tie.Need-returns
 unfolding value_of
 returns c =
     let sum = c.hash-bytes in
-    rw (element-is sum.result (search (rules, sum.type-inv)) sum.ensures)
+    rw (element_is sum.result (search (rules, sum.type-inv)) sum.ensures)
 
 pub message-begun-spec : {M : Type 1} → statement M
 message-begun-spec = tie.close (tie.spec hash-bytes-requires cast-t8 returns)

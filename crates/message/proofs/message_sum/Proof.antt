@@ -8,9 +8,9 @@ use lib.ListN.{length, take, length-take}
 use Rattle.octets.specs.Block.{padded}
 use Rattle.hash_field.specs.Element.{value_of}
 use Rattle.hash_field.specs.Field.{product}
-use Rattle.ghash.specs.Hash.{lengthBlock}
+use Rattle.ghash.specs.Hash.{length_block}
 use Rattle.ghash.proofs.HashLaws.{hash-append, hash-one}
-use Rattle.message.specs.Message.{wholeSum}
+use Rattle.message.specs.Message.{whole_sum}
 use borrow.Author.Rules.{rules}
 use Rattle.message.proofs.message_sum.Statement.{statement}
 use Rattle.message.proofs.message_sum.Tie as tie
@@ -44,12 +44,12 @@ absorb-requires : tie.Need-absorb-requires
 absorb-requires c κs = search rules
 
 returns : tie.Need-returns
-unfolding wholeSum
+unfolding whole_sum
 returns c =
     let given = c.before.before.before.before.before.before.before.before.before.args in
     let h = value_of given.h in
     let held = take (given.m.text % 16) given.m.part in
-    let lengths = lengthBlock given.m.ad given.m.text in
+    let lengths = length_block given.m.ad given.m.text in
     let parts = ap₂ (λ s l. product (bit_xor s l) h) c.before.before.before.before.hash-bytes.ensures c.before.length-block.ensures in
     let first = hash-append h (value_of given.m.sum) (padded held) (lengths ∷ []) in
     c.absorb.ensures ∙ parts ∙ sym (first ∙ hash-one h _ lengths)

@@ -1,7 +1,7 @@
 -- `mode::hash_key` meets its contract: the definition is its code.
 use mathlib.Core.Path.{◌∙◌, ap}
 use Rattle.octets.specs.Block.{number_at}
-use Rattle.mode.specs.Mode.{hashKey}
+use Rattle.mode.specs.Mode.{hash_key}
 use borrow.Author.Rules.{rules}
 use Rattle.mode.proofs.hash_key.Statement.{statement}
 use Rattle.mode.proofs.hash_key.Tie as tie
@@ -13,7 +13,7 @@ element-of-requires : tie.Need-element-of-requires
 element-of-requires c κs = search rules
 
 returns : tie.Need-returns
-unfolding hashKey
+unfolding hash_key
 returns c = c.element-of.ensures ∙ ap (λ b. number_at b 0) c.before.encipher-by.ensures
 
 pub hash-key-spec : {M : Type 1} → statement M

@@ -1,8 +1,8 @@
 -- `mode::hashed_first_block` meets its contract: the hash of the padded IV, with the block of lengths behind it.
 use mathlib.Core.Path.{◌∙◌, ap}
-use Rattle.octets.specs.Block.{blockBytes}
+use Rattle.octets.specs.Block.{block_bytes}
 use Rattle.hash_field.specs.Element.{value_of}
-use Rattle.mode.proofs.TagLaws.{iv-hash}
+use Rattle.mode.proofs.TagLaws.{iv_hash}
 use borrow.Author.Rules.{rules}
 use Rattle.mode.proofs.hashed_first_block.Statement.{statement}
 use Rattle.mode.proofs.hashed_first_block.Tie as tie
@@ -25,7 +25,7 @@ returns c =
     let given = c.before.before.before.before.before.args in
     let h = value_of given.h in
     let sum = c.before.before.before.hash-bytes.ensures in
-    c.Block-of.ensures ∙ ap blockBytes (iv-hash h given.iv.now sum c.before.before.length-block.ensures c.before.absorb.ensures)
+    c.Block-of.ensures ∙ ap block_bytes (iv_hash h given.iv.now sum c.before.before.length-block.ensures c.before.absorb.ensures)
 
 pub hashed-first-block-spec : {M : Type 1} → statement M
 hashed-first-block-spec =

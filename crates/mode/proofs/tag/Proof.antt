@@ -1,10 +1,10 @@
 -- `mode::tag` meets its contract: the hash of the message in its three parts, xor the enciphered first block.
 use mathlib.Core.Path.{◌∙◌, ap, ap₂}
 use lib.Bits.{bit_xor}
-use Rattle.octets.specs.Block.{number_at, blockBytes}
+use Rattle.octets.specs.Block.{number_at, block_bytes}
 use Rattle.hash_field.specs.Element.{value_of}
-use Rattle.mode.specs.Mode.{tagBy}
-use Rattle.mode.proofs.TagLaws.{message-hash}
+use Rattle.mode.specs.Mode.{tag_by}
+use Rattle.mode.proofs.TagLaws.{message_hash}
 use borrow.Author.Rules.{rules}
 use Rattle.mode.proofs.tag.Statement.{statement}
 use Rattle.mode.proofs.tag.Tie as tie
@@ -34,7 +34,7 @@ block-of-requires : tie.Need-block-of-requires
 block-of-requires c κs = search rules
 
 returns : tie.Need-returns
-unfolding tagBy value_of
+unfolding tag_by value_of
 returns c =
     let masked = c.before.before in
     let summed = masked.before.before in
@@ -42,10 +42,10 @@ returns c =
     let given = hashed.before.before.before.before.args in
     let h = value_of given.h in
     let sum =
-    message-hash h given.ad.now given.text.now hashed.before.hash-bytes.ensures hashed.hash-bytes2.ensures
+    message_hash h given.ad.now given.text.now hashed.before.hash-bytes.ensures hashed.hash-bytes2.ensures
     summed.before.length-block.ensures summed.absorb.ensures in
     let mask = masked.element-of.ensures ∙ ap (λ b. number_at b 0) masked.before.encipher-by.ensures in
-    c.Block-of.ensures ∙ ap blockBytes (c.before.plus.ensures ∙ ap₂ bit_xor sum mask)
+    c.Block-of.ensures ∙ ap block_bytes (c.before.plus.ensures ∙ ap₂ bit_xor sum mask)
 
 pub tag-spec : {M : Type 1} → statement M
 tag-spec =

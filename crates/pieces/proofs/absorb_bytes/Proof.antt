@@ -10,11 +10,11 @@ use lib.ListN.{length, take, drop, length-append}
 use lib.Seq.{length-take-le, drop-append-add}
 use Rattle.octets.specs.Block.{number_at, padded}
 use Rattle.hash_field.specs.Field.{product}
-use Rattle.hash_field.specs.Element.{value_of, elementOf}
-use Rattle.ghash.specs.Hash.{hashFrom}
-use Rattle.hash_field.proofs.ElementLaws.{element-value}
-use Rattle.pieces.specs.Piece.{sixteen, sumAfter, partAfter}
-use Rattle.pieces.proofs.HeldLaws.{sum-short, part-short, sum-fill, part-fill}
+use Rattle.hash_field.specs.Element.{value_of, element_of}
+use Rattle.ghash.specs.Hash.{hash_from}
+use Rattle.hash_field.proofs.ElementLaws.{element_value}
+use Rattle.pieces.specs.Piece.{sixteen, sum_after, part_after}
+use Rattle.pieces.proofs.HeldLaws.{sum_short, part_short, sum_fill, part_fill}
 use borrow.Author.Rules.{rules}
 use Rattle.pieces.proofs.absorb_bytes.Statement.{statement}
 use Rattle.pieces.proofs.absorb_bytes.Tie as tie
@@ -31,16 +31,16 @@ behind held more short =
 
 hashed-fill : (h sum first : ℕ) (s rest : List ℕ) → 16 ≤ length s → drop 16 s ≡ rest
     → first ≡ product (bit_xor sum (number_at (sixteen s) 0)) h
-    → hashFrom h first (padded (take (length rest / 16 * 16) rest)) ≡ sumAfter h sum s
+    → hash_from h first (padded (take (length rest / 16 * 16) rest)) ≡ sum_after h sum s
 hashed-fill h sum first s rest long left added =
-    ap₂ (λ (a : ℕ) (r : List ℕ). hashFrom h a (padded (take (length r / 16 * 16) r))) added (sym left)
-    ∙ sym (sum-fill h sum s long)
+    ap₂ (λ (a : ℕ) (r : List ℕ). hash_from h a (padded (take (length r / 16 * 16) r))) added (sym left)
+    ∙ sym (sum_fill h sum s long)
 
 held-fill : (s rest : List ℕ) → 16 ≤ length s → drop 16 s ≡ rest
-    → sixteen (take (length rest - length rest / 16 * 16) (drop (length rest / 16 * 16) rest) ++ []) ≡ partAfter s
+    → sixteen (take (length rest - length rest / 16 * 16) (drop (length rest / 16 * 16) rest) ++ []) ≡ part_after s
 held-fill s rest long left =
     ap sixteen (append-nil _ ∙ part_to_end rest (length rest / 16 * 16))
-    ∙ ap (λ (r : List ℕ). sixteen (drop (length r / 16 * 16) r)) (sym left) ∙ sym (part-fill s long)
+    ∙ ap (λ (r : List ℕ). sixteen (drop (length r / 16 * 16) r)) (sym left) ∙ sym (part_fill s long)
 
 sixteen-of-requires : tie.Need-sixteen-of-requires
 sixteen-of-requires c κs = search rules
@@ -58,8 +58,8 @@ returns c =
     let short : length s < 16 = omega arith in
     let low : given.sum.low < 2 ^ 64 = search rules in
     record {
-      sum = sym (ap elementOf (sum-short (value_of given.h) (value_of given.sum) s short) ∙ element-value given.sum low);
-      part = c.before.sixteen-of.ensures ∙ sym (part-short s short);
+      sum = sym (ap element_of (sum_short (value_of given.h) (value_of given.sum) s short) ∙ element_value given.sum low);
+      part = c.before.sixteen-of.ensures ∙ sym (part_short s short);
     }
 
 element-of-requires : tie.Need-element-of-requires
@@ -125,8 +125,8 @@ returns-2 c =
     (added.before.element-of.ensures
     ∙ ap (λ (t : List ℕ). number_at t 0) added.before.before.before.sixteen-of.ensures) in
     record {
-      sum = sym (element-value hashed.hash-bytes.result low)
-          ∙ ap elementOf (hashed.hash-bytes.ensures ∙ hashed-fill _ _ _ s rest long left first);
+      sum = sym (element_value hashed.hash-bytes.result low)
+          ∙ ap element_of (hashed.hash-bytes.ensures ∙ hashed-fill _ _ _ s rest long left first);
       part = c.sixteen-of2.ensures ∙ held-fill s rest long left;
     }
 

@@ -2,8 +2,8 @@
 use mathlib.Core.Path.{◌≡◌, ◌∙◌}
 use Rattle.octets.specs.Word.{bytes_of}
 use Rattle.octets.proofs.BlockLaws.{bytes_low}
-use Rattle.counter.specs.Counter.{counterBlock}
-use Rattle.pieces.specs.Piece.{counterAt}
+use Rattle.counter.specs.Counter.{counter_block}
+use Rattle.pieces.specs.Piece.{counter_at}
 use borrow.Author.Rules.{rules}
 use Rattle.pieces.proofs.counter_at.Statement.{statement}
 use Rattle.pieces.proofs.counter_at.Tie as tie
@@ -33,7 +33,7 @@ block-from-requires : tie.Need-block-from-requires
 block-from-requires c κs = search rules
 
 returns : tie.Need-returns
-unfolding counterAt counterBlock
+unfolding counter_at counter_block
 returns c =
     let number = c.before.before.before.before.args.number in
     let low : c.before.before.bytes2.result ≡ bytes_of number = c.before.before.bytes2.ensures ∙ bytes_low number in

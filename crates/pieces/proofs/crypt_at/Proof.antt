@@ -8,12 +8,12 @@ use borrow.Author.Rules.{rules}
 use lib.ListN.{length, take, drop, length-drop}
 use lib.Seq.{paste, take_all}
 use Rattle.octets.specs.Bytes.{xored}
-use Rattle.aes.specs.Cipher.{encipheredBy}
+use Rattle.aes.specs.Cipher.{enciphered_by}
 use Rattle.aes.proofs.CipherLaws.{length-enciphered}
 use Rattle.counter.specs.Counter.{stepped, crypted}
-use Rattle.pieces.specs.Piece.{ivOf, counterAt, sixteen}
+use Rattle.pieces.specs.Piece.{iv_of, counter_at, sixteen}
 use Rattle.pieces.proofs.CryptAtLaws.{part, part-drop, filled}
-use Rattle.pieces.proofs.PieceLaws.{cryptedAt-whole, cryptedAt-fill}
+use Rattle.pieces.proofs.PieceLaws.{crypted_at-whole, crypted_at_fill}
 use Rattle.pieces.proofs.crypt_at.Statement.{statement}
 use Rattle.pieces.proofs.crypt_at.Tie as tie
 
@@ -32,12 +32,12 @@ returns c =
     let branch = called.before.before in
     let made = branch.before in
     let given = made.before.before.before.args in
-    let e = encipheredBy given.words.now given.rounds in
+    let e = enciphered_by given.words.now given.rounds in
     let behind = drop (length given.piece.now) given.out.now in
     called.crypt.ensures
     ∙ ap (λ (j : List ℕ). crypted e j given.piece.now ++ behind) made.counter_at.ensures
     ∙ ap (λ (s : List ℕ). s ++ behind)
-    (sym (cryptedAt-whole e (ivOf given.mark given.number) given.before given.piece.now branch.if1.true))
+    (sym (crypted_at-whole e (iv_of given.mark given.number) given.before given.piece.now branch.if1.true))
 
 step-requires : tie.Need-step-requires
 step-requires c κs = search rules
@@ -121,10 +121,10 @@ returns-2 c =
     let given = start.args in
     let piece = given.piece.now in
     let out = given.out.now in
-    let e = encipheredBy given.words.now given.rounds in
-    let iv = ivOf given.mark given.number in
+    let e = enciphered_by given.words.now given.rounds in
+    let iv = iv_of given.mark given.number in
     let r = given.before % 16 in
-    let j = stepped (counterAt iv (given.before / 16)) in
+    let j = stepped (counter_at iv (given.before / 16)) in
     let n = counted.least.result in
     let out₁ = wrote.xor-into.new.0 in
     let sixteens = length-enciphered given.words.now given.rounds in
@@ -147,7 +147,7 @@ returns-2 c =
     ∙ ap (λ (i : List ℕ). crypted e i (part n piece) ++ drop (length (part n piece)) (part n out₁)) next-is in
     filled e j piece out (drop r (e j)) n (omega arith) count first then
     ∙ ap (λ (k : ℕ). (xored (take k piece) (drop r (e j)) ++ crypted e j (drop k piece)) ++ drop (length piece) out) size
-    ∙ ap (λ (s : List ℕ). s ++ drop (length piece) out) (sym (cryptedAt-fill e sixteens iv given.before piece some))
+    ∙ ap (λ (s : List ℕ). s ++ drop (length piece) out) (sym (crypted_at_fill e sixteens iv given.before piece some))
 
 pub crypt-at-spec : {M : Type 1} → statement M
 crypt-at-spec =

@@ -2,21 +2,21 @@
 use mathlib.Core.Path.{◌≡◌, ◌∙◌, sym}
 use mathlib.Core.Bool.{false}
 use borrow.Author.Rules.{rules}
-use Rattle.rows.specs.Rows.{keyBad, ivBad, tagBad, adBad, lowest}
+use Rattle.rows.specs.Rows.{key_bad, iv_bad, tag_bad, ad_bad, lowest}
 use Rattle.rows.proofs.length_answer.Statement.{statement}
 use Rattle.rows.proofs.length_answer.Tie as tie
 
 -- what a test that did not hold tells of its row
-key-good : (c : tie.Else1) → keyBad c.before.before.args.key ≡ false
-key-good c = sym c.before.key-bad.ensures ∙ c.if1.false
+key_good : (c : tie.Else1) → key_bad c.before.before.args.key ≡ false
+key_good c = sym c.before.key-bad.ensures ∙ c.if1.false
 
-iv-good : (c : tie.Else2) → ivBad c.before.before.before.before.args.iv ≡ false
-iv-good c = sym c.before.iv-bad.ensures ∙ c.if2.false
+iv_good : (c : tie.Else2) → iv_bad c.before.before.before.before.args.iv ≡ false
+iv_good c = sym c.before.iv-bad.ensures ∙ c.if2.false
 
-tag-good : (c : tie.Else3) → tagBad c.before.before.before.before.before.before.args.tag ≡ false
+tag-good : (c : tie.Else3) → tag_bad c.before.before.before.before.before.before.args.tag ≡ false
 tag-good c = sym c.before.tag-bad.ensures ∙ c.if3.false
 
-ad-good : (c : tie.Else4) → adBad c.before.before.before.before.before.before.before.before.args.ad ≡ false
+ad-good : (c : tie.Else4) → ad_bad c.before.before.before.before.before.before.before.before.args.ad ≡ false
 ad-good c = sym c.before.ad-bad.ensures ∙ c.if4.false
 
 key-bad-requires : tie.Need-key-bad-requires
@@ -31,7 +31,7 @@ iv-bad-requires c κs = search rules
 
 returns-2 : tie.Need-returns-2
 unfolding lowest
-returns-2 c = simp (key-good c.before.before, sym c.before.iv-bad.ensures ∙ c.if2.true)
+returns-2 c = simp (key_good c.before.before, sym c.before.iv-bad.ensures ∙ c.if2.true)
 
 tag-bad-requires : tie.Need-tag-bad-requires
 tag-bad-requires c κs = search rules
@@ -40,7 +40,7 @@ returns-3 : tie.Need-returns-3
 unfolding lowest
 returns-3 c =
     let two = c.before.before in
-    simp (key-good two.before.before, iv-good two, sym c.before.tag-bad.ensures ∙ c.if3.true)
+    simp (key_good two.before.before, iv_good two, sym c.before.tag-bad.ensures ∙ c.if3.true)
 
 ad-bad-requires : tie.Need-ad-bad-requires
 ad-bad-requires c κs = search rules
@@ -50,7 +50,7 @@ unfolding lowest
 returns-4 c =
     let three = c.before.before in
     let two = three.before.before in
-    simp (key-good two.before.before, iv-good two, tag-good three, sym c.before.ad-bad.ensures ∙ c.if4.true)
+    simp (key_good two.before.before, iv_good two, tag-good three, sym c.before.ad-bad.ensures ∙ c.if4.true)
 
 text-bad-requires : tie.Need-text-bad-requires
 text-bad-requires c κs = search rules
@@ -61,7 +61,7 @@ returns-5 c =
     let four = c.before.before in
     let three = four.before.before in
     let two = three.before.before in
-    simp (key-good two.before.before, iv-good two, tag-good three, ad-good four, sym c.before.text-bad.ensures ∙ c.if5.true)
+    simp (key_good two.before.before, iv_good two, tag-good three, ad-good four, sym c.before.text-bad.ensures ∙ c.if5.true)
 
 returns-6 : tie.Need-returns-6
 unfolding lowest
@@ -69,7 +69,7 @@ returns-6 c =
     let four = c.before.before in
     let three = four.before.before in
     let two = three.before.before in
-    simp (key-good two.before.before, iv-good two, tag-good three, ad-good four, sym c.before.text-bad.ensures ∙ c.if5.false)
+    simp (key_good two.before.before, iv_good two, tag-good three, ad-good four, sym c.before.text-bad.ensures ∙ c.if5.false)
 
 pub length-answer-spec : {M : Type 1} → statement M
 length-answer-spec =

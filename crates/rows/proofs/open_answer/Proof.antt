@@ -2,17 +2,17 @@
 use mathlib.Core.Path.{◌≡◌, ◌∙◌, sym}
 use mathlib.Core.Bool.{Bool}
 use mathlib.Core.List.{List, [], ◌∷◌, ◌++◌}
-use Rattle.rows.specs.Rows.{tooShort, lowest, lengthRows}
+use Rattle.rows.specs.Rows.{too_short, lowest, length_rows}
 use Rattle.rows.proofs.LengthLaws.{refused, passed_on}
 use borrow.Author.Rules.{rules}
 use Rattle.rows.proofs.open_answer.Statement.{statement}
 use Rattle.rows.proofs.open_answer.Tie as tie
 
 abbrev first : tie.After-less → List Bool
-first c = lengthRows c.before.args.key c.before.args.iv c.before.args.ad c.less.result c.before.args.tag
+first c = length_rows c.before.args.key c.before.args.iv c.before.args.ad c.less.result c.before.args.tag
 
 abbrev rest : tie.After-less → List Bool
-rest c = tooShort c.before.args.sealed c.before.args.tag ∷ tooShort c.before.args.room c.less.result ∷ []
+rest c = too_short c.before.args.sealed c.before.args.tag ∷ too_short c.before.args.room c.less.result ∷ []
 
 on : (c : tie.Else1) → lowest 1 (first c.before.before.before ++ rest c.before.before.before) ≡ lowest 6 (rest c.before.before.before)
 on c = passed_on (first c.before.before.before) _ c.before.before.length-answer.ensures c.before.is-done.ensures c.if1.false

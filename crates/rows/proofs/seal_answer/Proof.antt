@@ -4,19 +4,19 @@ use mathlib.Core.List.{List, [], ◌∷◌, ◌++◌}
 use mathlib.Core.Bool.{Bool, false}
 use Prim.Native.Nat.{◌+◌}
 use native.Mathlib.Omega.{arith}
-use Rattle.answer.proofs.DoneLaws.{was-done}
+use Rattle.answer.proofs.DoneLaws.{was_done}
 use Rattle.rows.specs.Passed.{Passed}
-use Rattle.rows.specs.Rows.{tooShort, lowest, lengthRows}
+use Rattle.rows.specs.Rows.{too_short, lowest, length_rows}
 use Rattle.rows.proofs.LengthLaws.{refused, passed_on, passed}
 use borrow.Author.Rules.{rules}
 use Rattle.rows.proofs.seal_answer.Statement.{statement}
 use Rattle.rows.proofs.seal_answer.Tie as tie
 
 abbrev first : tie.Start → List Bool
-first c = lengthRows c.args.key c.args.iv c.args.ad c.args.text c.args.tag
+first c = length_rows c.args.key c.args.iv c.args.ad c.args.text c.args.tag
 
 abbrev rest : tie.Start → List Bool
-rest c = false ∷ tooShort c.args.room (c.args.text + c.args.tag) ∷ []
+rest c = false ∷ too_short c.args.room (c.args.text + c.args.tag) ∷ []
 
 on : (c : tie.Else1) → lowest 1 (first c.before.before.before ++ rest c.before.before.before) ≡ lowest 6 (rest c.before.before.before)
 on c = passed_on (first c.before.before.before) _ c.before.before.length-answer.ensures c.before.is-done.ensures c.if1.false
@@ -34,7 +34,7 @@ returns c =
 add-too-short : tie.Need-overflow-add-too-short
 add-too-short c =
     let given = c.before.before.before.args in
-    let clear = was-done (lowest 1 (first c.before.before.before)) c.before.before.length-answer.ensures c.before.is-done.ensures c.if1.false in
+    let clear = was_done (lowest 1 (first c.before.before.before)) c.before.before.length-answer.ensures c.before.is-done.ensures c.if1.false in
     let fit : Passed given.key given.iv given.ad given.text given.tag = passed given.key given.iv given.ad given.text given.tag [] clear in
     omega arith
 

@@ -6,7 +6,7 @@ use lib.Dec.{T, eqb, eqb→eq}
 use lib.ListN.{get_or}
 use Rattle.octets.proofs.Tested.{passes, passed}
 use Rattle.byte_field.specs.Field.{doubled, multiples, product, squares, inverse}
-use Rattle.sbox.specs.Substitution.{entryBits, substituted, Substitutes}
+use Rattle.sbox.specs.Substitution.{entry_bits, substituted, Substitutes}
 use Rattle.sbox.proofs.table.Statement.{statement}
 use Rattle.sbox.proofs.table.Tie as tie
 
@@ -17,7 +17,7 @@ substitutes : (t : List ℕ) → T (passes (follows t) 256) → Substitutes t
 substitutes t right = record { entry = λ a below. eqb→eq (get_or t a 0) (substituted a) (passed (follows t) 256 right a below) }
 
 returns : tie.Need-returns
-unfolding doubled multiples product squares inverse entryBits substituted
+unfolding doubled multiples product squares inverse entry_bits substituted
 returns c = substitutes _ tt
 
 pub table-spec : {M : Type 1} → statement M

@@ -4,13 +4,13 @@ use Prim.Native.Nat.{◌≤◌, ◌-◌, ◌/◌}
 use native.Mathlib.Omega.{arith}
 use lib.Bits.{bit_xor}
 use lib.ListN.{length}
-use Rattle.schedule.specs.Schedule.{wordsFor, changed, firstWords, inSixty, roundKeys}
-use Rattle.schedule.proofs.ScheduleLaws.{room-more, room_at, later-word}
+use Rattle.schedule.specs.Schedule.{words_for, changed, first_words, in_sixty, round_keys}
+use Rattle.schedule.proofs.ScheduleLaws.{room-more, room_at, later_word}
 use Rattle.schedule.proofs.expand.Statement.{statement}
 use Rattle.schedule.proofs.expand.Tie as tie
 
 abbrev invariant-loop : tie.invariant-loop
-invariant-loop table key n total words₀ i₀ words i = (n ≤ i) × (i ≤ total) × (words ≡ inSixty n key i)
+invariant-loop table key n total words₀ i₀ words i = (n ≤ i) × (i ≤ total) × (words ≡ in_sixty n key i)
 
 abbrev decreases-loop : tie.decreases-loop
 decreases-loop table key n total words₀ i₀ words i = total - i
@@ -68,17 +68,17 @@ loop-again c =
     let room = c.before.before.loop.invariant.2 in
     let last = c.change.ensures ∙ ap (changed n i) (room_at n key i (i - 1) room (omega arith)) in
     let word = ap₂ bit_xor (room_at n key i (i - n) room (omega arith)) last in
-    let later = later-word n key i (firstWords n key i) c.before.before.loop.invariant.0 in
+    let later = later_word n key i (first_words n key i) c.before.before.loop.invariant.0 in
     (omega arith, omega arith, room-more n key i (omega arith) room (word ∙ sym later))
 
 returns : tie.Need-returns invariant-loop decreases-loop
-unfolding roundKeys
+unfolding round_keys
 returns c =
     let i = c.before.loop.i in
     let key = c.before.before.before.before.args.key.now in
     let n = length key / 4 in
-    let done : i ≡ wordsFor n = omega arith in
-    c.before.loop.invariant.2 ∙ ap (inSixty n key) done
+    let done : i ≡ words_for n = omega arith in
+    c.before.loop.invariant.2 ∙ ap (in_sixty n key) done
 
 pub expand-spec : {M : Type 1} → statement M
 expand-spec =

@@ -4,19 +4,19 @@ use mathlib.Core.Path.{◌≡◌, refl, ◌∙◌, ap}
 use Prim.Native.Nat.{◌≤◌, ◌<◌, ◌-◌, ◌/◌}
 use native.Mathlib.Omega.{arith}
 use lib.ListN.{length}
-use Rattle.schedule.specs.Schedule.{firstWords, inSixty}
-use Rattle.schedule.proofs.ScheduleLaws.{room-more, own-word}
+use Rattle.schedule.specs.Schedule.{first_words, in_sixty}
+use Rattle.schedule.proofs.ScheduleLaws.{room-more, own_word}
 use Rattle.schedule.proofs.load.Statement.{statement}
 use Rattle.schedule.proofs.load.Tie as tie
 
 abbrev invariant-loop : tie.invariant-loop
-invariant-loop key n words₀ i₀ words i = (i ≤ n) × (words ≡ inSixty n key i)
+invariant-loop key n words₀ i₀ words i = (i ≤ n) × (words ≡ in_sixty n key i)
 
 abbrev decreases-loop : tie.decreases-loop
 decreases-loop key n words₀ i₀ words i = n - i
 
 loop-holds : tie.Need-loop-init invariant-loop decreases-loop
-unfolding firstWords
+unfolding first_words
 loop-holds c = (omega arith, refl)
 
 mul-word-at : tie.Need-overflow-mul-word-at invariant-loop decreases-loop
@@ -43,7 +43,7 @@ loop-again c =
     let key = c.before.before.before.before.args.key.now in
     let n = length key / 4 in
     let below : i < n = c.before.loop-test.true in
-    (omega arith, room-more n key i (omega arith) c.before.before.loop.invariant.1 (rw (own-word n key i) c.word_at.ensures))
+    (omega arith, room-more n key i (omega arith) c.before.before.loop.invariant.1 (rw (own_word n key i) c.word_at.ensures))
 
 returns : tie.Need-returns invariant-loop decreases-loop
 returns c =
@@ -51,7 +51,7 @@ returns c =
     let key = c.before.before.before.args.key.now in
     let n = length key / 4 in
     let done : i ≡ n = omega arith in
-    c.before.loop.invariant.1 ∙ ap (inSixty n key) done
+    c.before.loop.invariant.1 ∙ ap (in_sixty n key) done
 
 pub load_spec : {M : Type 1} → statement M
 load_spec =

@@ -1,6 +1,6 @@
 -- `schedule::sub_word` meets its contract: a word of the four bytes, each substituted.
 use borrow.Author.Rules.{rules}
-use Rattle.schedule.specs.Schedule.{substitutedWord}
+use Rattle.schedule.specs.Schedule.{substituted_word}
 use Rattle.schedule.proofs.sub_word.Statement.{statement}
 use Rattle.schedule.proofs.sub_word.Tie as tie
 
@@ -35,7 +35,7 @@ word-requires : tie.Need-word-requires
 word-requires c κs = search rules
 
 returns : tie.Need-returns
-unfolding substitutedWord
+unfolding substituted_word
 returns c =
     rw (
       c.word.ensures,

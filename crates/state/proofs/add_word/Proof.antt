@@ -1,6 +1,6 @@
 -- `state::add_word` meets its contract: the definition is its code.
 use borrow.Author.Rules.{rules}
-use Rattle.state.specs.State.{keyedColumn}
+use Rattle.state.specs.State.{keyed_column}
 use Rattle.state.proofs.add_word.Statement.{statement}
 use Rattle.state.proofs.add_word.Tie as tie
 
@@ -23,7 +23,7 @@ bytes-requires : tie.Need-bytes-requires
 bytes-requires c κs = search rules
 
 returns : tie.Need-returns
-unfolding keyedColumn
+unfolding keyed_column
 returns c = rw (c.bytes.ensures, c.before.word.ensures)
 
 pub add-word-spec : {M : Type 1} → statement M

@@ -5,7 +5,7 @@ use Prim.Native.Nat.{ℕ}
 use borrow.Author.Rules.{rules}
 use lib.Bits.{bit_xor}
 use Rattle.byte_field.specs.Field.{doubled, multiples, product}
-use Rattle.state.specs.State.{mixed, mixedColumn}
+use Rattle.state.specs.State.{mixed, mixed_column}
 use Rattle.state.proofs.mix_column.Statement.{statement}
 use Rattle.state.proofs.mix_column.Tie as tie
 
@@ -45,7 +45,7 @@ double-requires-4 : tie.Need-double-requires-4
 double-requires-4 c κs = search rules
 
 returns : tie.Need-returns
-unfolding mixedColumn
+unfolding mixed_column
 returns c =
     rows _ _ _ _
     c.before.before.before.double.ensures

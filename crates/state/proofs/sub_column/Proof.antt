@@ -1,6 +1,6 @@
 -- `state::sub_column` meets its contract: each row is substituted.
 use borrow.Author.Rules.{rules}
-use Rattle.state.specs.State.{substitutedColumn}
+use Rattle.state.specs.State.{substituted_column}
 use Rattle.state.proofs.sub_column.Statement.{statement}
 use Rattle.state.proofs.sub_column.Tie as tie
 
@@ -29,7 +29,7 @@ substitute-requires-4 : tie.Need-substitute-requires-4
 substitute-requires-4 c κs = search rules
 
 returns : tie.Need-returns
-unfolding substitutedColumn
+unfolding substituted_column
 returns c =
     rw (
       c.substitute4.ensures,

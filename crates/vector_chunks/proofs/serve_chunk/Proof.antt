@@ -8,15 +8,15 @@ use borrow.Author.Rules.{rules}
 use borrow.Author.Tests.{leb-true, leb-false}
 use lib.ListN.{length, length-drop}
 use Rattle.records.specs.Remembered.{Served}
-use Rattle.records.proofs.TurnLaws.{served-nothing, served-then}
-use Rattle.vector_lines.specs.Line.{answerLine}
+use Rattle.records.proofs.TurnLaws.{served_nothing, served_then}
+use Rattle.vector_lines.specs.Line.{answer_line}
 use Rattle.vector_chunks.proofs.serve_chunk.Statement.{statement}
 use Rattle.vector_chunks.proofs.serve_chunk.Tie as tie
 
 abbrev invariant-loop : tie.invariant-loop
 invariant-loop out₀ key₀ iv₀ ad₀ text₀ chunk at machine₀ i₀ count₀ out key iv ad text machine i count =
     (length out ≡ length out₀)
-    × Served answerLine machine₀ key₀ iv₀ ad₀ text₀ chunk i₀ out₀ machine key iv ad text i out count
+    × Served answer_line machine₀ key₀ iv₀ ad₀ text₀ chunk i₀ out₀ machine key iv ad text i out count
     × ((i₀ < i) ⊎ (count ≡ 0))
 
 abbrev decreases-loop : tie.decreases-loop
@@ -33,7 +33,7 @@ begun (inl later) enough full = later
 begun (inr none) enough full = absurd (omega arith)
 
 loop-holds : tie.Need-loop-init invariant-loop decreases-loop
-loop-holds c = (refl, served-nothing answerLine _ _ _, inr refl)
+loop-holds c = (refl, served_nothing answer_line _ _ _, inr refl)
 
 sub-if1 : tie.Need-overflow-sub-if1 invariant-loop decreases-loop
 sub-if1 c = search rules
@@ -64,7 +64,7 @@ loop-again c =
     let further = service.ensures.1.0 tested.before.loop-test.true in
     let inside : now.count ≤ length service.new.0 = omega (arith, room tested, service.auto.0) in (
       service.auto.0 ∙ now.invariant.0,
-      served-then answerLine _ _ _ now.invariant.1 service.ensures.0 service.ensures.1.1 inside,
+      served_then answer_line _ _ _ now.invariant.1 service.ensures.0 service.ensures.1.1 inside,
       inl (omega (arith, now.invariant.1.reached, further)),
     )
 

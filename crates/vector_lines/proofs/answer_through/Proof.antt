@@ -8,9 +8,9 @@ use borrow.Author.Rules.{rules}
 use borrow.Author.Tests.{eqb-true}
 use lib.ListN.{length, length-take}
 use Rattle.answer.specs.Number.{number_of}
-use Rattle.answer.proofs.DoneLaws.{was-refused}
-use Rattle.answer.proofs.NumberLaws.{number-below}
-use Rattle.vector_lines.proofs.AnswerLaws.{done-count, done-line, refused-line}
+use Rattle.answer.proofs.DoneLaws.{was_refused}
+use Rattle.answer.proofs.NumberLaws.{number_below}
+use Rattle.vector_lines.proofs.AnswerLaws.{done-count, done_line, refused_line}
 use Rattle.vector_lines.proofs.answer_through.Statement.{statement}
 use Rattle.vector_lines.proofs.answer_through.Tie as tie
 
@@ -60,7 +60,7 @@ returns c =
     let given = then.before.before.before.before.before.before.before.before.before.before.before.before in
     let enough : length given.args.text.now + 16 ≤ length given.args.sealed.now = omega (arith, given.requires) in
     rw
-    (done-line _ _ _ _ _ enough then.before.before.before.before.seal.ensures (done then))
+    (done_line _ _ _ _ _ enough then.before.before.before.before.seal.ensures (done then))
     c.before.before.write-sealed.ensures
 
 number-requires : tie.Need-number-requires
@@ -69,7 +69,7 @@ number-requires c κs = search rules
 write-number-requires : tie.Need-write-number-requires
 write-number-requires c κs =
     let entry = c.before.before.before.before.before.before.before.before.before.before.before.before.before.before in
-    let small = number-below c.before.before.before.before.before.before.seal.result.answer in
+    let small = number_below c.before.before.before.before.before.before.seal.result.answer in
     (omega (arith, c.number.ensures, small), omega (arith, entry.requires))
 
 same-length-3 : tie.Need-same-length-3
@@ -83,9 +83,9 @@ returns-2 c =
     let else = c.before.before.before.before.before in
     let given = else.before.before.before.before.before.before.before.before.before.before.before.before in
     let enough : length given.args.text.now + 16 ≤ length given.args.sealed.now = omega (arith, given.requires) in
-    let refusal = was-refused _ else.before.is-done.ensures (ap not else.if1.false) in
+    let refusal = was_refused _ else.before.is-done.ensures (ap not else.if1.false) in
     rw
-    (refused-line _ _ _ _ _ enough else.before.before.before.before.seal.ensures refusal, ← c.before.before.before.number.ensures)
+    (refused_line _ _ _ _ _ enough else.before.before.before.before.seal.ensures refusal, ← c.before.before.before.number.ensures)
     c.before.before.write-number.ensures
 
 pub answer-through-spec : {M : Type 1} → statement M

@@ -7,8 +7,8 @@ use native.Mathlib.Omega.{arith}
 use borrow.Author.Rules.{rules}
 use lib.ListN.{length, take, length-take}
 use Rattle.records.specs.Input.{Answered}
-use Rattle.records.proofs.InputLaws.{answered-nothing, answered-then}
-use Rattle.vector_lines.specs.Line.{answerLine}
+use Rattle.records.proofs.InputLaws.{answered_nothing, answered_then}
+use Rattle.vector_lines.specs.Line.{answer_line}
 use Rattle.vectors.proofs.answer_chunk.Statement.{statement}
 use Rattle.vectors.proofs.answer_chunk.Tie as tie
 
@@ -16,13 +16,13 @@ abbrev invariant-loop : tie.invariant-loop
 invariant-loop out₀ key₀ iv₀ ad₀ text₀ chunk machine₀ at₀ out key iv ad text machine at =
     (length out ≡ length out₀)
     × (at ≤ length chunk)
-    × Answered answerLine machine₀ key₀ iv₀ ad₀ text₀ (take at chunk) machine key iv ad text
+    × Answered answer_line machine₀ key₀ iv₀ ad₀ text₀ (take at chunk) machine key iv ad text
 
 abbrev decreases-loop : tie.decreases-loop
 decreases-loop out₀ key₀ iv₀ ad₀ text₀ chunk machine₀ at₀ out key iv ad text machine at = length chunk - at
 
 loop-holds : tie.Need-loop-init invariant-loop decreases-loop
-loop-holds c = (refl, zero-le, answered-nothing answerLine)
+loop-holds c = (refl, zero-le, answered_nothing answer_line)
 
 serve-chunk-requires : tie.Need-serve-chunk-requires invariant-loop decreases-loop
 serve-chunk-requires c κs = search rules
@@ -44,7 +44,7 @@ returns c =
     let served = c.before.before.before.before.before.before in
     let service = served.serve-chunk in
     let entered = served.before.before.before.before.before.before in (
-      answered-then answerLine _ _ _ entered.before.loop.invariant.2 service.ensures.0 c.before.hand-out.ensures,
+      answered_then answer_line _ _ _ entered.before.loop.invariant.2 service.ensures.0 c.before.hand-out.ensures,
       ((λ failed. absurd (false≢true (sym failed))), λ some. omega (arith, service.ensures.1 entered.loop-test.true)),
     )
 
@@ -60,7 +60,7 @@ loop-again c =
     let inv = served.before.before.before.before.before.before.before.loop.invariant in (
       service.auto.0 ∙ inv.0,
       service.ensures.0.within inv.1,
-      answered-then answerLine _ _ _ inv.2 service.ensures.0 c.before.hand-out.ensures,
+      answered_then answer_line _ _ _ inv.2 service.ensures.0 c.before.hand-out.ensures,
     )
 
 same-length-2 : tie.Need-same-length-2 invariant-loop decreases-loop

@@ -8,8 +8,8 @@ use native.Mathlib.Omega.{arith}
 use borrow.Author.Rules.{rules}
 use lib.ListN.{length, take, length-take}
 use lib.Seq.{take_all}
-use Rattle.records.proofs.InputLaws.{Carried, carried-start, taken_then, carried-then, ended-whole, ended-before}
-use Rattle.vector_lines.specs.Line.{answerLine}
+use Rattle.records.proofs.InputLaws.{Carried, carried_start, taken_then, carried_then, ended-whole, ended_before}
+use Rattle.vector_lines.specs.Line.{answer_line}
 use Rattle.vectors.proofs.answer_input.Statement.{statement}
 use Rattle.vectors.proofs.answer_input.Tie as tie
 
@@ -17,7 +17,7 @@ abbrev invariant-loop : tie.invariant-loop
 invariant-loop out₀ key₀ iv₀ ad₀ text₀ chunk₀ machine₀ turns₀ out key iv ad text chunk machine turns =
     (length out ≡ length out₀)
     × (length chunk ≡ length chunk₀)
-    × Carried answerLine turns chunk machine key iv ad text
+    × Carried answer_line turns chunk machine key iv ad text
 
 abbrev decreases-loop : tie.decreases-loop
 decreases-loop out₀ key₀ iv₀ ad₀ text₀ chunk₀ machine₀ turns₀ out key iv ad text chunk machine turns =
@@ -34,7 +34,7 @@ ready-requires c κs = search rules
 loop-holds : tie.Need-loop-init invariant-loop decreases-loop
 loop-holds c =
     let start = c.before.before.before in
-    (refl, refl, rw c.ready.ensures (carried-start answerLine _ _ _ _ _ start.requires.1))
+    (refl, refl, rw c.ready.ensures (carried_start answer_line _ _ _ _ _ start.requires.1))
 
 read-requires : tie.Need-read-requires invariant-loop decreases-loop
 read-requires c κs = search rules
@@ -48,7 +48,7 @@ same-length-2 c = search rules
 returns : tie.Need-returns invariant-loop decreases-loop
 returns c =
     let entered = c.before.before.before.before.before in
-    ended-before answerLine entered.before.loop.invariant.2.taken (λ fine read. absurd (false≢true (sym read)))
+    ended_before answer_line entered.before.loop.invariant.2.taken (λ fine read. absurd (false≢true (sym read)))
 
 count-requires : tie.Need-count-requires invariant-loop decreases-loop
 count-requires c κs = search rules
@@ -66,7 +66,7 @@ returns-2 : tie.Need-returns-2 invariant-loop decreases-loop
 returns-2 c =
     let rest = c.before.before in
     let now = rest.before.before.before.before.before.before.before.before.before.before.before.loop in
-    ended-whole answerLine now.invariant.2 rest.answer-rest.ensures
+    ended-whole answer_line now.invariant.2 rest.answer-rest.ensures
 
 slice-reshare-prefix-answer-chunk : tie.Need-slice-reshare-prefix-answer-chunk invariant-loop decreases-loop
 slice-reshare-prefix-answer-chunk c = search rules
@@ -93,8 +93,8 @@ returns-3 c =
     let entered = counted.before.before.before.before.before.before.before.before in
     let answers = answered.answer-chunk.ensures in
     let begun = answers.1.1 (some counted) in
-    ended-before answerLine
-    (taken_then answerLine
+    ended_before answer_line
+    (taken_then answer_line
     entered.before.loop.invariant.2
     answers.0
     (simp length-take (omega (arith, begun, some counted)))
@@ -118,7 +118,7 @@ loop-again c =
     let front = ap (λ n. take n buffer) (sym count.ensures.0.1) in (
       answered.answer-chunk.auto.0 ∙ inv.0,
       read.read.auto.1.0 ∙ inv.1,
-      carried-then answerLine inv.2 (rw whole at answers.0) (some counted) entered.loop-test.true buffer front,
+      carried_then answer_line inv.2 (rw whole at answers.0) (some counted) entered.loop-test.true buffer front,
     )
 
 same-length-7 : tie.Need-same-length-7 invariant-loop decreases-loop
@@ -128,7 +128,7 @@ same-length-8 : tie.Need-same-length-8 invariant-loop decreases-loop
 same-length-8 c = search rules
 
 returns-4 : tie.Need-returns-4 invariant-loop decreases-loop
-returns-4 c = ended-before answerLine c.before.loop.invariant.2.taken (λ fine read left. omega (arith, c.loop-test.false))
+returns-4 c = ended_before answer_line c.before.loop.invariant.2.taken (λ fine read left. omega (arith, c.loop-test.false))
 
 pub answer-input-spec : {M : Type 1} → statement M
 answer-input-spec =

@@ -9,8 +9,8 @@ use borrow.Author.Tests.{lt-ltb, le-ltb}
 use lib.Bits.{bit_or, or_lt}
 use lib.Pow.{pow-lt, pow-add}
 use Rattle.ledger.specs.History.{reach}
-use Rattle.ledger.specs.Ledger.{windowOf, ledgerOf, withMark, markedAt}
-use Rattle.ledger.proofs.WindowLaws.{ledger-halves, ledger-window, or-near, or-far}
+use Rattle.ledger.specs.Ledger.{window_of, ledger_of, with_mark, marked_at}
+use Rattle.ledger.proofs.WindowLaws.{ledger_halves, ledger_window, or_near, or_far}
 use Rattle.ledger.proofs.window.mark.Statement.{statement}
 use Rattle.ledger.proofs.window.mark.Tie as tie
 
@@ -18,32 +18,32 @@ use Rattle.ledger.proofs.window.mark.Tie as tie
 bit : (k : ℕ) → k < 64 → 1 * 2 ^ k % 2 ^ 64 ≡ 2 ^ k
 bit k small = ap (λ (b : ℕ). b % 2 ^ 64) (one-mul (2 ^ k)) ∙ mod-eq_of_lt (pow-lt small)
 
-reached : (w d : ℕ) → d < reach → withMark w d ≡ bit_or w (2 ^ d)
-unfolding withMark
+reached : (w d : ℕ) → d < reach → with_mark w d ≡ bit_or w (2 ^ d)
+unfolding with_mark
 reached w d below = ap (λ (b : Bool). cond b (bit_or w (2 ^ d)) w) (lt-ltb d reach below)
 
 module _ (top f n : ℕ) (below : n < 2 ^ 64) where
   in_near : (d : ℕ) → d < 64
-      → record { high = top; near = bit_or n (1 * 2 ^ d % 2 ^ 64); far = f } ≡ ledgerOf top (withMark (f * 2 ^ 64 + n) d)
+      → record { high = top; near = bit_or n (1 * 2 ^ d % 2 ^ 64); far = f } ≡ ledger_of top (with_mark (f * 2 ^ 64 + n) d)
   in_near d small =
       ap (λ (b : ℕ). record { high = top; near = bit_or n b; far = f }) (bit d small)
-      ∙ sym (ledger-halves top f (bit_or n (2 ^ d)) (or_lt 64 n (2 ^ d) below (pow-lt small)))
-      ∙ ap (ledgerOf top) (sym (reached (f * 2 ^ 64 + n) d (omega arith) ∙ or-near 64 f n (2 ^ d) below (pow-lt small)))
+      ∙ sym (ledger_halves top f (bit_or n (2 ^ d)) (or_lt 64 n (2 ^ d) below (pow-lt small)))
+      ∙ ap (ledger_of top) (sym (reached (f * 2 ^ 64 + n) d (omega arith) ∙ or_near 64 f n (2 ^ d) below (pow-lt small)))
 
   in-far : (k : ℕ) → k < 64
-      → record { high = top; near = n; far = bit_or f (1 * 2 ^ k % 2 ^ 64) } ≡ ledgerOf top (withMark (f * 2 ^ 64 + n) (k + 64))
+      → record { high = top; near = n; far = bit_or f (1 * 2 ^ k % 2 ^ 64) } ≡ ledger_of top (with_mark (f * 2 ^ 64 + n) (k + 64))
   in-far k small =
       ap (λ (b : ℕ). record { high = top; near = n; far = bit_or f b }) (bit k small)
-      ∙ sym (ledger-halves top (bit_or f (2 ^ k)) n below)
-      ∙ ap (ledgerOf top)
+      ∙ sym (ledger_halves top (bit_or f (2 ^ k)) n below)
+      ∙ ap (ledger_of top)
       (sym (reached (f * 2 ^ 64 + n) (k + 64) (omega arith)
-      ∙ ap (bit_or (f * 2 ^ 64 + n)) (pow-add 2 k 64) ∙ or-far 64 f n (2 ^ k) below))
+      ∙ ap (bit_or (f * 2 ^ 64 + n)) (pow-add 2 k 64) ∙ or_far 64 f n (2 ^ k) below))
 
 shl-t4 : tie.Need-overflow-shl-t4
 shl-t4 c = search rules
 
 returns : tie.Need-returns
-unfolding markedAt windowOf
+unfolding marked_at window_of
 returns c =
     let l = c.before.before.args.l in
     in_near l.high l.far l.near (omega arith) c.before.before.args.d (omega arith)
@@ -52,22 +52,22 @@ shl-t7 : tie.Need-overflow-shl-t7
 shl-t7 c = search rules
 
 returns-2 : tie.Need-returns-2
-unfolding markedAt windowOf
+unfolding marked_at window_of
 returns-2 c =
     let l = c.before.before.before.args.l in
     let d = c.before.before.before.args.d in
     let place : d - 64 + 64 ≡ d = omega arith in
     in-far l.high l.far l.near (omega arith) (d - 64) (omega arith)
-    ∙ ap (λ (k : ℕ). ledgerOf l.high (withMark (windowOf l) k)) place
+    ∙ ap (λ (k : ℕ). ledger_of l.high (with_mark (window_of l) k)) place
 
 returns-3 : tie.Need-returns-3
-unfolding markedAt withMark
+unfolding marked_at with_mark
 returns-3 c =
     let l = c.before.before.args.l in
     let d = c.before.before.args.d in
-    let w = windowOf l in
-    sym (ap (λ (b : Bool). ledgerOf l.high (cond b (bit_or w (2 ^ d)) w)) (le-ltb d reach (omega arith))
-    ∙ ledger-window l (omega arith))
+    let w = window_of l in
+    sym (ap (λ (b : Bool). ledger_of l.high (cond b (bit_or w (2 ^ d)) w)) (le-ltb d reach (omega arith))
+    ∙ ledger_window l (omega arith))
 
 pub mark_spec : {M : Type 1} → statement M
 mark_spec = tie.close (tie.spec shl-t4 returns shl-t7 returns-2 returns-3)

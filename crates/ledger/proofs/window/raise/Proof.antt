@@ -4,12 +4,12 @@ use native.Mathlib.Omega.{arith}
 use borrow.Author.Rules.{rules}
 use borrow.Author.Tests.{lt-ltb, le-ltb}
 use Rattle.ledger.specs.declared.Ledger.{Ledger}
-use Rattle.ledger.specs.Ledger.{ledgerOf, raisedTo}
+use Rattle.ledger.specs.Ledger.{ledger_of, raised_to}
 use Rattle.ledger.proofs.window.raise.Statement.{statement}
 use Rattle.ledger.proofs.window.raise.Tie as tie
 
 returns : tie.Need-returns
-unfolding raisedTo
+unfolding raised_to
 returns c = simp (le-ltb c.before.before.args.l.high c.before.before.args.n (omega arith))
 
 sub-shift : tie.Need-overflow-sub-shift
@@ -19,7 +19,7 @@ shift-requires : tie.Need-shift-requires
 shift-requires c κs = search rules
 
 returns-2 : tie.Need-returns-2
-unfolding raisedTo ledgerOf
+unfolding raised_to ledger_of
 returns-2 c =
     let l = c.before.before.before.before.args.l in
     let n = c.before.before.before.before.args.n in

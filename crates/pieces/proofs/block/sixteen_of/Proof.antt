@@ -7,7 +7,7 @@ use native.Mathlib.Omega.{arith}
 use lib.ListN.{length, get_or, set, replicate}
 use lib.Seq.{paste, paste-zero, paste-suc}
 use Rattle.pieces.specs.Piece.{sixteen}
-use Rattle.pieces.proofs.SixteenLaws.{sixteen-at, length-sixteen}
+use Rattle.pieces.proofs.SixteenLaws.{sixteen_at, length-sixteen}
 use Rattle.pieces.proofs.block.sixteen_of.Statement.{statement}
 use Rattle.pieces.proofs.block.sixteen_of.Tie as tie
 
@@ -17,7 +17,7 @@ put : (s block : List ℕ) (i b : ℕ) → i < 16 → block ≡ paste (replicate
 put s block i b h begun byte =
     let here : i ≡ 0 + i = omega arith in
     let size : length (sixteen s) ≡ 16 = length-sixteen s in
-    ap₂ (λ (l : List ℕ) (x : ℕ). set l i x) begun (byte ∙ sym (sixteen-at s i h))
+    ap₂ (λ (l : List ℕ) (x : ℕ). set l i x) begun (byte ∙ sym (sixteen_at s i h))
     ∙ ap (λ (k : ℕ). set (paste (replicate 16 0) 0 (sixteen s) i) k (get_or (sixteen s) i 0)) here
     ∙ paste-suc (replicate 16 0) 0 (sixteen s) i 0 (omega arith) (omega arith)
     ∙ ap (paste (replicate 16 0) 0 (sixteen s)) (sym (add-one i))

@@ -2,7 +2,7 @@
 use native.Mathlib.Omega.{arith}
 use borrow.Author.Rules.{rules}
 use lib.ListN.{length-set}
-use Rattle.records.proofs.AnswerLaws.{wrote-digit, wrote-digits}
+use Rattle.records.proofs.AnswerLaws.{wrote_digit, wrote_digits}
 use Rattle.records.proofs.answers.write_number.Statement.{statement}
 use Rattle.records.proofs.answers.write_number.Tie as tie
 
@@ -19,7 +19,7 @@ same_length : tie.Need-same-length
 same_length c = search rules
 
 returns : tie.Need-returns
-returns c = wrote-digit c.before.args.out.now c.before.args.n c.if1.true (omega arith)
+returns c = wrote_digit c.before.args.out.now c.before.args.n c.if1.true (omega arith)
 
 add-out-2 : tie.Need-overflow-add-out-2
 add-out-2 c = search rules
@@ -40,7 +40,7 @@ same-length-2 : tie.Need-same-length-2
 same-length-2 c = search rules
 
 returns-2 : tie.Need-returns-2
-returns-2 c = wrote-digits c.before.args.out.now c.before.args.n c.if1.false (omega arith)
+returns-2 c = wrote_digits c.before.args.out.now c.before.args.n c.if1.false (omega arith)
 
 pub write-number-spec : {M : Type 1} → statement M
 write-number-spec =

@@ -3,7 +3,7 @@ use mathlib.Core.Path.{◌≡◌}
 use Prim.Native.Nat.{min}
 use native.Mathlib.Omega.{arith}
 use borrow.Author.Rules.{rules}
-use Rattle.records.specs.Kept.{lineEnded}
+use Rattle.records.specs.Kept.{line_ended}
 use Rattle.records.proofs.machine.end_line.Statement.{statement}
 use Rattle.records.proofs.machine.end_line.Tie as tie
 
@@ -17,7 +17,7 @@ fresh-requires : tie.Need-fresh-requires
 fresh-requires c κs = search rules
 
 returns : tie.Need-returns
-unfolding lineEnded
+unfolding line_ended
 returns c =
     rw (
       c.fresh.ensures,
@@ -30,7 +30,7 @@ fresh-requires-2 : tie.Need-fresh-requires-2
 fresh-requires-2 c κs = search rules
 
 returns-2 : tie.Need-returns-2
-unfolding lineEnded
+unfolding line_ended
 returns-2 c =
     rw (
       c.fresh2.ensures,
@@ -43,7 +43,7 @@ fresh-requires-3 : tie.Need-fresh-requires-3
 fresh-requires-3 c κs = search rules
 
 returns-3 : tie.Need-returns-3
-unfolding lineEnded
+unfolding line_ended
 returns-3 c =
     rw (
       c.fresh3.ensures,
@@ -56,7 +56,7 @@ fresh-requires-4 : tie.Need-fresh-requires-4
 fresh-requires-4 c κs = search rules
 
 returns-4 : tie.Need-returns-4
-unfolding lineEnded
+unfolding line_ended
 returns-4 c =
     let m = c.before.before.before.before.before.before.before.before.args.m in
     let field : min m.lines 3 ≡ 3 = omega arith in

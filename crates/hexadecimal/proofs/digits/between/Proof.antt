@@ -1,7 +1,7 @@
--- `hex::digits::between` meets its contract.
+-- `hexadecimal::digits::between` meets its contract.
 use borrow.Author.Tests.{le-leb, lt-leb}
-use Rattle.hex.proofs.digits.between.Statement.{statement}
-use Rattle.hex.proofs.digits.between.Tie as tie
+use Rattle.hexadecimal.proofs.digits.between.Statement.{statement}
+use Rattle.hexadecimal.proofs.digits.between.Tie as tie
 
 returns : tie.Need-returns
 returns c = rw (lt-leb _ _ c.if1.true)

@@ -1,4 +1,4 @@
--- `hex::digits::write_hex` meets its contract. The invariant: the digits of the first i bytes stand in the output, and each
+-- `hexadecimal::digits::write_hex` meets its contract. The invariant: the digits of the first i bytes stand in the output, and each
 -- turn sets the next two.
 use mathlib.Core.Path.{◌≡◌, refl, ◌∙◌, ap, sym}
 use mathlib.Core.List.{List}
@@ -8,20 +8,20 @@ use native.Mathlib.Omega.{arith}
 use borrow.Author.Rules.{rules}
 use lib.ListN.{length, get_or, set, length-set}
 use lib.Seq.{paste, paste-zero, paste-suc}
-use Rattle.hex.specs.Hex.{hexDigit, encoded}
-use Rattle.hex.proofs.HexLaws.{length-encoded, digits-at}
-use Rattle.hex.proofs.digits.write_hex.Statement.{statement}
-use Rattle.hex.proofs.digits.write_hex.Tie as tie
+use Rattle.hexadecimal.specs.Hex.{hex_digit, encoded}
+use Rattle.hexadecimal.proofs.HexLaws.{length-encoded, digits_at}
+use Rattle.hexadecimal.proofs.digits.write_hex.Statement.{statement}
+use Rattle.hexadecimal.proofs.digits.write_hex.Tie as tie
 
 -- both digits of byte i, set behind those that stand already
 more : (out₀ bytes out : List ℕ) (at i h l : ℕ) → at + length bytes * 2 ≤ length out₀ → i < length bytes
-    → h ≡ hexDigit (get_or bytes i 0 / 16) → l ≡ hexDigit (get_or bytes i 0 % 16)
+    → h ≡ hex_digit (get_or bytes i 0 / 16) → l ≡ hex_digit (get_or bytes i 0 % 16)
     → out ≡ paste out₀ at (encoded bytes) (i * 2)
     → set (set out (at + i * 2) h) (at + i * 2 + 1) l ≡ paste out₀ at (encoded bytes) ((i + 1) * 2)
 more out₀ bytes out at i h l room in_bytes high low so_far =
     let s = encoded bytes in
     let long : length s ≡ length bytes * 2 = length-encoded bytes in
-    let digits = digits-at bytes i in_bytes in
+    let digits = digits_at bytes i in_bytes in
     let first = high ∙ sym digits.0 in
     let second = low ∙ sym digits.1 ∙ ap (λ n. get_or s n 0) (add-one (i * 2)) in
     let place : at + i * 2 + 1 ≡ at + suc (i * 2) = omega arith in

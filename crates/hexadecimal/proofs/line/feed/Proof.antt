@@ -1,12 +1,12 @@
--- `hex::line::feed` meets its contract: each way out goes with the tests of the definition.
+-- `hexadecimal::line::feed` meets its contract: each way out goes with the tests of the definition.
 use mathlib.Core.Path.{◌≡◌, ◌∙◌, subst}
 use Prim.Native.Nat.{◌%◌, ◌≤◌, ◌<◌}
 use native.Mathlib.Omega.{arith}
 use borrow.Author.Rules.{rules}
-use Rattle.hex.proofs.LineLaws.{spoiled-before, no_digit, too_many, takes}
-use Rattle.hex.proofs.LineLaws.{fed-spoils, fed-first, fed-second, stored-spoils, stored-first, stored-second}
-use Rattle.hex.proofs.line.feed.Statement.{statement}
-use Rattle.hex.proofs.line.feed.Tie as tie
+use Rattle.hexadecimal.proofs.LineLaws.{spoiled_before, no_digit, too_many, takes}
+use Rattle.hexadecimal.proofs.LineLaws.{fed_spoils, fed_first, fed_second, stored_spoils, stored_first, stored_second}
+use Rattle.hexadecimal.proofs.line.feed.Statement.{statement}
+use Rattle.hexadecimal.proofs.line.feed.Tie as tie
 
 spoilt-requires : tie.Need-spoilt-requires
 spoilt-requires c κs = search rules
@@ -14,8 +14,8 @@ spoilt-requires c κs = search rules
 returns : tie.Need-returns
 returns c =
     let given = c.before.before.args in
-    let none = spoiled-before given.line given.b c.before.if1.true in
-    (c.spoilt.ensures ∙ fed-spoils _ _ none, stored-spoils _ _ _ none)
+    let none = spoiled_before given.line given.b c.before.if1.true in
+    (c.spoilt.ensures ∙ fed_spoils _ _ none, stored_spoils _ _ _ none)
 
 digit-value-requires : tie.Need-digit-value-requires
 digit-value-requires c κs = search rules
@@ -29,7 +29,7 @@ returns-2 c =
     let clean = c.before.before.before.if1.false in
     let strange = subst (λ v. 16 ≤ v) c.before.before.digit_value.ensures c.before.if2.true in
     let none = no_digit given.line given.b clean strange in
-    (c.spoilt2.ensures ∙ fed-spoils _ _ none, stored-spoils _ _ _ none)
+    (c.spoilt2.ensures ∙ fed_spoils _ _ none, stored_spoils _ _ _ none)
 
 spoilt-requires-3 : tie.Need-spoilt-requires-3
 spoilt-requires-3 c κs = search rules
@@ -40,7 +40,7 @@ returns-3 c =
     let clean = c.before.before.before.before.if1.false in
     let small = subst (λ v. v < 16) c.before.before.before.digit_value.ensures c.before.before.if2.false in
     let none = too_many given.line given.b clean small c.before.if3.true in
-    (c.spoilt3.ensures ∙ fed-spoils _ _ none, stored-spoils _ _ _ none)
+    (c.spoilt3.ensures ∙ fed_spoils _ _ none, stored_spoils _ _ _ none)
 
 add-t8 : tie.Need-overflow-add-t8
 add-t8 c = search rules
@@ -52,7 +52,7 @@ returns-4 c =
     let clean = c.before.before.before.before.if1.false in
     let small = subst (λ v. v < 16) value c.before.before.if2.false in
     let some = takes given.line given.b clean small c.before.if3.false in
-    (rw value (fed-first _ _ some c.if4.true), stored-first _ _ _ some c.if4.true)
+    (rw value (fed_first _ _ some c.if4.true), stored_first _ _ _ some c.if4.true)
 
 mul-buffer : tie.Need-overflow-mul-buffer
 mul-buffer c = search rules
@@ -74,7 +74,7 @@ returns-5 c =
     let small = subst (λ v. v < 16) value c.before.before.before.if2.false in
     let some = takes given.line given.b clean small c.before.before.if3.false in
     let odd : given.line.digits % 2 ≡ 1 = omega arith in
-    (fed-second _ _ some odd, rw value (stored-second _ _ _ some odd))
+    (fed_second _ _ some odd, rw value (stored_second _ _ _ some odd))
 
 pub feed-spec : {M : Type 1} → statement M
 feed-spec =

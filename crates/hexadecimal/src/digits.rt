@@ -1,12 +1,12 @@
 // Digits of hex, and bytes written as such.
 ghost use Rattle.std.specs.Prelude.{◌≡◌, ◌+◌, ◌*◌, ◌/◌, ◌%◌, ◌≤◌, ◌<◌, length};
 ghost use Rattle.std.proofs.Math.Seq.{paste};
-ghost use Rattle.hex.specs.Hex.{within, digitValue, hexDigit, encoded};
+ghost use Rattle.hexadecimal.specs.Hex.{within, digit_value, hex_digit, encoded};
 
 // The value of the hex digit b, in either letter case; 16 for a byte that is none. The three ranges share one value, so that no
 // branch parts figures from letters: among digits it would go either way at random, which costs more than all the rest.
 pub fn digit_value(b: u8) -> u8
-    ensures { result ≡ digitValue b }
+    ensures { result ≡ digit_value b }
 {
     let value = b % 16 + b / 64 * 9;
     if between(b'0', b'9', b) {
@@ -34,7 +34,7 @@ fn between(from: u8, to: u8, b: u8) -> bool
 // The digit of n, in lower case.
 pub fn hex_digit(n: u8) -> u8
     requires { n < 16 }
-    ensures { result ≡ hexDigit n }
+    ensures { result ≡ hex_digit n }
 {
     if n < 10 { n + b'0' } else { n - 10 + b'a' }
 }
@@ -54,14 +54,14 @@ pub fn write_hex(out: &mut [u8], at: usize, bytes: &[u8])
 
 // The digit of a byte's high half.
 fn high_digit(b: u8) -> u8
-    ensures { result ≡ hexDigit (b / 16) }
+    ensures { result ≡ hex_digit (b / 16) }
 {
     hex_digit(b / 16)
 }
 
 // The digit of a byte's low half.
 fn low_digit(b: u8) -> u8
-    ensures { result ≡ hexDigit (b % 16) }
+    ensures { result ≡ hex_digit (b % 16) }
 {
     hex_digit(b % 16)
 }

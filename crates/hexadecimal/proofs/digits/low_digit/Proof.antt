@@ -1,7 +1,7 @@
--- `hex::digits::low_digit` meets its contract: it is the digit of the low half.
+-- `hexadecimal::digits::low_digit` meets its contract: it is the digit of the low half.
 use borrow.Author.Rules.{rules}
-use Rattle.hex.proofs.digits.low_digit.Statement.{statement}
-use Rattle.hex.proofs.digits.low_digit.Tie as tie
+use Rattle.hexadecimal.proofs.digits.low_digit.Statement.{statement}
+use Rattle.hexadecimal.proofs.digits.low_digit.Tie as tie
 
 hex-digit-requires : tie.Need-hex-digit-requires
 hex-digit-requires c κs = search rules

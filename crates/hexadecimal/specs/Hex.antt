@@ -5,37 +5,37 @@ abbrev pub within : ℕ → ℕ → ℕ → Bool
 within from to b = leb from b && leb b to
 
 -- the value of a digit: 0 to 9 are the bytes 48 to 57, a to f 97 to 102, A to F 65 to 70; 16 for a byte that is none
-unfoldable pub digitValue : ℕ → ℕ
-digitValue b =
+unfoldable pub digit_value : ℕ → ℕ
+digit_value b =
     cond (within 48 57 b) (b - 48)
     (cond (within 97 102 b) (b - 97 + 10)
     (cond (within 65 70 b) (b - 65 + 10)
     16))
 
 -- the digit of a number below 16, in lower case
-unfoldable pub hexDigit : ℕ → ℕ
-hexDigit n = cond (ltb n 10) (n + 48) (n + 87)
+unfoldable pub hex_digit : ℕ → ℕ
+hex_digit n = cond (ltb n 10) (n + 48) (n + 87)
 
 -- bytes as hex: two digits for each, the one for its high half first
 unfoldable pub encoded : List ℕ → List ℕ
 encoded [] = []
-encoded (b ∷ s) = hexDigit (b / 16) ∷ hexDigit (b % 16) ∷ encoded s
+encoded (b ∷ s) = hex_digit (b / 16) ∷ hex_digit (b % 16) ∷ encoded s
 
 -- the bytes that a line of digits stands for, two digits to each
 unfoldable pub decoded : List ℕ → List ℕ
 decoded [] = []
 decoded (h ∷ []) = []
-decoded (h ∷ l ∷ s) = (digitValue h * 16 + digitValue l) ∷ decoded s
+decoded (h ∷ l ∷ s) = (digit_value h * 16 + digit_value l) ∷ decoded s
 
 -- every byte of a line is a digit
-unfoldable pub allDigits : List ℕ → Bool
-allDigits [] = true
-allDigits (b ∷ s) = ltb (digitValue b) 16 && allDigits s
+unfoldable pub all_digits : List ℕ → Bool
+all_digits [] = true
+all_digits (b ∷ s) = ltb (digit_value b) 16 && all_digits s
 
 -- the most bytes that a line may stand for
-abbrev pub longestField : ℕ
-longestField = 4096
+abbrev pub longest_field : ℕ
+longest_field = 4096
 
 -- an even count of digits, no strange byte, and at most 4,096 bytes' worth
-unfoldable pub goodLine : List ℕ → Bool
-goodLine s = allDigits s && (eqb (length s % 2) 0 && leb (length s / 2) longestField)
+unfoldable pub good_line : List ℕ → Bool
+good_line s = all_digits s && (eqb (length s % 2) 0 && leb (length s / 2) longest_field)

@@ -1,7 +1,7 @@
--- `hex::digits::high_digit` meets its contract: it is the digit of the high half.
+-- `hexadecimal::digits::high_digit` meets its contract: it is the digit of the high half.
 use borrow.Author.Rules.{rules}
-use Rattle.hex.proofs.digits.high_digit.Statement.{statement}
-use Rattle.hex.proofs.digits.high_digit.Tie as tie
+use Rattle.hexadecimal.proofs.digits.high_digit.Statement.{statement}
+use Rattle.hexadecimal.proofs.digits.high_digit.Tie as tie
 
 hex-digit-requires : tie.Need-hex-digit-requires
 hex-digit-requires c κs = search rules

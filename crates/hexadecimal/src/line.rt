@@ -1,6 +1,6 @@
 // A line of hex, taken in byte by byte.
 ghost use Rattle.std.specs.Prelude.{◌≡◌};
-ghost use Rattle.hex.specs.Line.{freshLine, spoiledLine, fed, stored, endsGood};
+ghost use Rattle.hexadecimal.specs.Line.{fresh_line, spoiled_line, fed, stored, ends_good};
 
 use crate::digits::digit_value;
 
@@ -18,7 +18,7 @@ pub struct Line {
 
 // A line of which nothing was read yet.
 pub fn fresh() -> Line
-    ensures { result ≡ freshLine }
+    ensures { result ≡ fresh_line }
 {
     Line {
         digits: 0,
@@ -29,7 +29,7 @@ pub fn fresh() -> Line
 
 // A line that can become good no more.
 fn spoilt() -> Line
-    ensures { result ≡ spoiledLine }
+    ensures { result ≡ spoiled_line }
 {
     Line {
         digits: 0,
@@ -70,7 +70,7 @@ pub fn feed(buffer: &mut [u8; 4096], line: Line, b: u8) -> Line
 
 // The line, ended here, is good.
 pub fn ends_good(line: Line) -> bool
-    ensures { result ≡ endsGood line }
+    ensures { result ≡ ends_good line }
 {
     if line.spoiled {
         return false;

@@ -10,7 +10,7 @@ use borrow.Author.Tests.{leb-true}
 use lib.Dec.{leb}
 use lib.ListN.{length, get_or}
 use Rattle.octets.proofs.BytesLaws.{both_true}
-use Rattle.hex.specs.Hex.{within, digitValue, hexDigit, encoded}
+use Rattle.hexadecimal.specs.Hex.{within, digit_value, hex_digit, encoded}
 
 bounds : (from to b : ℕ) → within from to b ≡ true → (from ≤ b) × (b ≤ to)
 bounds from to b inside =
@@ -19,20 +19,20 @@ bounds from to b inside =
 
 -- the code's one expression for the value of a digit, in each of the three ranges
 module _ (b : ℕ) where
-  pub figure : within 48 57 b ≡ true → b % 16 + b / 64 * 9 ≡ digitValue b
-  unfolding digitValue
+  pub figure : within 48 57 b ≡ true → b % 16 + b / 64 * 9 ≡ digit_value b
+  unfolding digit_value
   figure inside = rw inside (omega (arith, bounds 48 57 b inside))
 
-  pub small : within 48 57 b ≡ false → within 97 102 b ≡ true → b % 16 + b / 64 * 9 ≡ digitValue b
-  unfolding digitValue
+  pub small : within 48 57 b ≡ false → within 97 102 b ≡ true → b % 16 + b / 64 * 9 ≡ digit_value b
+  unfolding digit_value
   small first inside = rw (first, inside) (omega (arith, bounds 97 102 b inside))
 
-  pub capital : within 48 57 b ≡ false → within 97 102 b ≡ false → within 65 70 b ≡ true → b % 16 + b / 64 * 9 ≡ digitValue b
-  unfolding digitValue
+  pub capital : within 48 57 b ≡ false → within 97 102 b ≡ false → within 65 70 b ≡ true → b % 16 + b / 64 * 9 ≡ digit_value b
+  unfolding digit_value
   capital first second inside = rw (first, second, inside) (omega (arith, bounds 65 70 b inside))
 
-  pub strange : within 48 57 b ≡ false → within 97 102 b ≡ false → within 65 70 b ≡ false → 16 ≡ digitValue b
-  unfolding digitValue
+  pub strange : within 48 57 b ≡ false → within 97 102 b ≡ false → within 65 70 b ≡ false → 16 ≡ digit_value b
+  unfolding digit_value
   strange first second third = rw (first, second, third)
 
 pub length-encoded : (s : List ℕ) → length (encoded s) ≡ length s * 2
@@ -41,12 +41,12 @@ length-encoded [] = refl
 length-encoded (b ∷ s) = rw (length-encoded s) (omega arith)
 
 -- the digits of byte i
-pub digits-at : (s : List ℕ) (i : ℕ) → i < length s
-    → (get_or (encoded s) (i * 2) 0 ≡ hexDigit (get_or s i 0 / 16)) × (get_or (encoded s) (i * 2 + 1) 0 ≡ hexDigit (get_or s i 0 % 16))
+pub digits_at : (s : List ℕ) (i : ℕ) → i < length s
+    → (get_or (encoded s) (i * 2) 0 ≡ hex_digit (get_or s i 0 / 16)) × (get_or (encoded s) (i * 2 + 1) 0 ≡ hex_digit (get_or s i 0 % 16))
 unfolding encoded
-digits-at [] i h = absurd (not-suc-le-zero h)
-digits-at (b ∷ s) zero h = (refl, refl)
-digits-at (b ∷ s) (suc i) h =
+digits_at [] i h = absurd (not-suc-le-zero h)
+digits_at (b ∷ s) zero h = (refl, refl)
+digits_at (b ∷ s) (suc i) h =
     let high : suc i * 2 ≡ suc (suc (i * 2)) = omega arith in
     let low : suc i * 2 + 1 ≡ suc (suc (i * 2 + 1)) = omega arith in
-    rw (low, high) (digits-at s i (le_of_suc-le-suc h))
+    rw (low, high) (digits_at s i (le_of_suc-le-suc h))

@@ -1,9 +1,9 @@
--- `hex::digits::digit_value` meets its contract: at each way out the tests say in which range b stands.
+-- `hexadecimal::digits::digit_value` meets its contract: at each way out the tests say in which range b stands.
 use mathlib.Core.Path.{sym, ◌∙◌}
 use borrow.Author.Rules.{rules}
-use Rattle.hex.proofs.HexLaws.{figure, small, capital, strange}
-use Rattle.hex.proofs.digits.digit_value.Statement.{statement}
-use Rattle.hex.proofs.digits.digit_value.Tie as tie
+use Rattle.hexadecimal.proofs.HexLaws.{figure, small, capital, strange}
+use Rattle.hexadecimal.proofs.digits.digit_value.Statement.{statement}
+use Rattle.hexadecimal.proofs.digits.digit_value.Tie as tie
 
 mul-value : tie.Need-overflow-mul-value
 mul-value c = search rules
