@@ -1,6 +1,8 @@
 // The block cipher of FIPS 197 for keys of 16 and 32 bytes.
 //
 // Whoever enciphers many blocks keeps a copy of the table and the round keys, and lends both.
+#![tactic(auto)]
+
 ghost use Rattle.std.specs.Prelude.{◌≡◌, ◌-◌, ◌≤◌, length};
 ghost use Rattle.sbox.specs.Substitution.{Substitutes};
 ghost use Rattle.aes.specs.Cipher.{rounded, last_rounded, after_rounds, enciphered_by, enciphered};

@@ -1,9 +1,11 @@
 // The answers of the public calls.
+#![tactic(auto)]
+
 ghost use Rattle.std.specs.Prelude.{◌≡◌, eqb};
 ghost use Rattle.answer.specs.Number.{number_of};
 
 // What a call answers. Rules R2.0 (done) to R2.11 (row 11, used) number them, in this order.
-#[derive(Drop)]
+#[derive(Clone, Copy)]
 pub enum Answer {
     Done,
     // The key does not have 16 or 32 bytes.
@@ -31,7 +33,7 @@ pub enum Answer {
 }
 
 // What a call that writes answers: with `Done` how many bytes it wrote, with any other answer 0.
-#[derive(Drop)]
+#[derive(Clone, Copy)]
 pub struct Outcome {
     pub answer: Answer,
     pub count: usize,

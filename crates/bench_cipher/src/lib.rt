@@ -1,4 +1,6 @@
 // The cipher over many blocks, exported for bench/ to time.
+#![tactic(auto)]
+
 ghost use Rattle.std.specs.Prelude.{◌≡◌, ◌+◌, ◌≤◌, length, take, drop};
 ghost use Rattle.sbox.specs.Substitution.{Substitutes};
 ghost use Rattle.aes.specs.Cipher.{enciphered_by};

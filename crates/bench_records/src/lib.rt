@@ -1,4 +1,6 @@
 // The record machine without a sealer behind it, exported for bench/ to time.
+#![tactic(auto)]
+
 ghost use Rattle.std.specs.Prelude.{◌≡◌};
 ghost use Rattle.records.specs.Remembered.{FieldBuffers};
 ghost use Rattle.bench_records.specs.Count.{whole_records};

@@ -1,4 +1,6 @@
 // GF(2^8), the field of bytes of FIPS 197.
+#![tactic(auto)]
+
 ghost use Rattle.std.specs.Prelude.{◌≡◌};
 ghost use Rattle.byte_field.specs.Field.{doubled};
 

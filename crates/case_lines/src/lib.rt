@@ -1,4 +1,6 @@
 // The lines of the cases' program, written piece by piece.
+#![tactic(auto)]
+
 ghost use Rattle.std.specs.Prelude.{◌≡◌, take};
 
 use answer::{Answer, number};

@@ -1,5 +1,7 @@
 // The cases that are run, rules R10.9 (the window) to R10.14 (lengths at their limits) among them: a line behind each one's
 // name, bytes in hex.
+#![tactic(auto)]
+
 use case_lines::write_line;
 
 // As many zeros as the longest case takes, and an output for the longest that is sealed.

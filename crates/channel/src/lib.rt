@@ -1,6 +1,8 @@
 // The sealing channel: messages sealed in pieces under a station's mark, each with a number of its own that is never used twice.
 //
 // A channel goes in by value and comes back. Whatever its fields hold, a call answers; every length may be handed in.
+#![tactic(auto)]
+
 ghost use Rattle.channel.specs.Promise.{OpeningPromise, BeginPromise, FeedPromise, FinishPromise, AbandonPromise};
 
 use answer::{Answer, is_done};
@@ -10,14 +12,14 @@ use channel_state::{
 };
 
 // What opening a channel, beginning and abandoning a message give.
-#[derive(Drop)]
+#[derive(Clone, Copy)]
 pub struct Step {
     pub answer: Answer,
     pub channel: Channel,
 }
 
 // What feeding a piece gives: how many bytes were written, 0 on a refusal.
-#[derive(Drop)]
+#[derive(Clone, Copy)]
 pub struct Fed {
     pub answer: Answer,
     pub channel: Channel,
@@ -25,7 +27,7 @@ pub struct Fed {
 }
 
 // What finishing a message gives: its tag, zeros past the tag's length, and all zeros on a refusal.
-#[derive(Drop)]
+#[derive(Clone, Copy)]
 pub struct Finished {
     pub answer: Answer,
     pub channel: Channel,

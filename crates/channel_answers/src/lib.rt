@@ -1,4 +1,6 @@
 // What each call of a channel answers. The phase is looked at first.
+#![tactic(auto)]
+
 ghost use Rattle.std.specs.Prelude.{◌≡◌, ◌<◌, ◌^◌};
 ghost use Rattle.answer.specs.Number.{number_of};
 ghost use Rattle.channel_state.specs.State.{busy, idle, opening_number, begin_number, feed_number};

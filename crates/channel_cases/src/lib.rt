@@ -1,6 +1,8 @@
 // The channel's cases: a line has what each call answered, by the numbers of rules R2.0 to R2.11.
 //
 // Zeros enough for every length are lent by the program.
+#![tactic(auto)]
+
 ghost use Rattle.std.specs.Prelude.{◌≤◌, length};
 
 use case_lines::{front, say, say_answer, write_hex, write_line};

@@ -1,4 +1,6 @@
 // A channel and what its calls make of it: a new one, a message begun, a piece taken in, a message's tag, a message ended.
+#![tactic(auto)]
+
 ghost use Rattle.std.specs.Prelude.{◌≡◌, ◌++◌, ◌+◌, ◌^◌, ◌≤◌, ◌<◌, length, take, drop};
 ghost use Rattle.pieces.specs.Piece.{sixteen};
 ghost use Rattle.message.specs.Message.{no_message};
@@ -16,17 +18,17 @@ use schedule::expand;
 
 // A station's mark: the first four bytes of every IV of its channel.
 #[repr(C)]
-#[derive(Drop)]
+#[derive(Clone, Copy)]
 pub struct Mark(pub [u8; 4]);
 
 // A message's number: the last eight bytes of its IV, the highest first.
 #[repr(C)]
-#[derive(Drop)]
+#[derive(Clone, Copy)]
 pub struct Number(pub u64);
 
 // A channel. All zeros is the dead one.
 #[repr(C)]
-#[derive(Drop)]
+#[derive(Clone, Copy)]
 pub struct Channel {
     pub words: [u32; 60],
     pub h: Element,

@@ -1,4 +1,6 @@
 // The counter blocks, and the text xored with what they encipher to.
+#![tactic(auto)]
+
 ghost use Rattle.std.specs.Prelude.{◌≡◌, ◌+◌, ◌≤◌, ◌++◌, length, drop};
 ghost use Rattle.std.proofs.Math.Seq.{paste};
 ghost use Rattle.octets.specs.Bytes.{xored};

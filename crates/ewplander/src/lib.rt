@@ -1,4 +1,6 @@
 // Ewplander for C and Rust: each call is the one by value, with the answer as its number (rules R2.0 to R2.11).
+#![tactic(auto)]
+
 ghost use Rattle.told.specs.Call.{OpeningCall, BeginCall, FeedCall, FinishCall, AbandonCall};
 ghost use Rattle.ewplander.specs.Call.{SealCall, OpenCall};
 

@@ -1,4 +1,6 @@
 // AES-GCM at once: SP 800-38D's mode over FIPS 197's cipher. Any lengths may be handed in; rules R2.1 to R2.7 refuse bad ones.
+#![tactic(auto)]
+
 ghost use Rattle.std.specs.Prelude.{◌≡◌, ◌+◌, ◌-◌, ◌≤◌, length};
 ghost use Rattle.sbox.specs.Substitution.{Substitutes};
 ghost use Rattle.aes.specs.Cipher.{enciphered_by, enciphered};

@@ -1,4 +1,6 @@
 // The hash of SP 800-38D, and the elements that blocks of bytes make.
+#![tactic(auto)]
+
 ghost use Rattle.std.specs.Prelude.{◌≡◌, ◌^◌, ◌≤◌, ◌<◌, length, get_or};
 ghost use Rattle.std.specs.Int.Bits.{bit_xor};
 ghost use Rattle.octets.specs.Word.{word_at};

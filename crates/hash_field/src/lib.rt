@@ -1,4 +1,6 @@
 // The hash field of SP 800-38D: its elements, their sum and their product.
+#![tactic(auto)]
+
 ghost use Rattle.std.specs.Prelude.{◌≡◌, ◌*◌, ◌<◌};
 ghost use Rattle.std.specs.Int.Bits.{bit_xor};
 ghost use Rattle.hash_field.specs.Element.{value_of, times_power};
@@ -6,7 +8,7 @@ ghost use Rattle.hash_field.specs.Field.{times_a, sum_of, product};
 
 // An element of the hash field: a block's first and last eight bytes, each as a big-endian number.
 #[repr(C)]
-#[derive(Drop)]
+#[derive(Clone, Copy)]
 pub struct Element {
     pub high: u64,
     pub low: u64,
@@ -44,7 +46,7 @@ fn times_bit(bit: u64, y: Element) -> Element
 }
 
 // A product on its way: the sum so far, and y times the power of a whose turn it is.
-#[derive(Drop)]
+#[derive(Clone, Copy)]
 struct Partial {
     sum: Element,
     power: Element,

@@ -9,7 +9,7 @@ const MOST_DIGITS: usize = 8192;
 
 // What is kept of a line while it is read: how many digits it has, the value of a last one that has no second yet, and
 // whether it is spoiled. The bytes that its digits made are in a buffer beside it.
-#[derive(Drop)]
+#[derive(Clone, Copy)]
 pub struct Line {
     pub digits: usize,
     pub half: u8,

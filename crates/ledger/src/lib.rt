@@ -1,4 +1,6 @@
 // The ledger of a sealing channel: which message numbers were accepted.
+#![tactic(auto)]
+
 mod window;
 
 ghost use Rattle.std.specs.Prelude.{◌≡◌};
@@ -13,7 +15,7 @@ const REACH: u64 = 128;
 
 // The highest accepted number, and 128 marks: bit d of `near`, or bit d - 64 of `far`, tells that high - d was accepted.
 #[repr(C)]
-#[derive(Drop)]
+#[derive(Clone, Copy)]
 pub struct Ledger {
     pub high: u64,
     pub near: u64,

@@ -1,4 +1,6 @@
 // The message in progress: begun over its associated data, longer by each piece of ciphertext, and its tag at the end.
+#![tactic(auto)]
+
 ghost use Rattle.std.specs.Prelude.{◌≡◌, ◌+◌, ◌^◌, ◌<◌, length, take};
 ghost use Rattle.hash_field.specs.Element.{value_of};
 ghost use Rattle.pieces.specs.Piece.{sixteen};
@@ -11,7 +13,7 @@ use pieces::block::sixteen_of;
 
 // The message in progress, all zeros where there is none.
 #[repr(C)]
-#[derive(Drop)]
+#[derive(Clone, Copy)]
 pub struct Message {
     pub number: u64,
     // The hash so far, over the associated data and every whole block of ciphertext.

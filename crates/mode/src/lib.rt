@@ -1,4 +1,6 @@
 // The parts of AES-GCM's mode (SP 800-38D) beside the counter: the hash key, the first block of a message, and its tag.
+#![tactic(auto)]
+
 ghost use Rattle.std.specs.Prelude.{◌≡◌, ◌^◌, ◌≤◌, ◌<◌, length, take};
 ghost use Rattle.octets.specs.Block.{block_bytes};
 ghost use Rattle.octets.specs.Bytes.{same};

@@ -1,4 +1,6 @@
 // Bytes, and the big-endian numbers that they make.
+#![tactic(auto)]
+
 ghost use Rattle.std.specs.Prelude.{◌≡◌, ◌+◌, ◌*◌, ◌^◌, ◌≤◌, min, length};
 ghost use Rattle.std.proofs.Math.Seq.{paste};
 ghost use Rattle.octets.specs.Block.{long_at, block_from};

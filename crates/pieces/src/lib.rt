@@ -1,4 +1,6 @@
 // A piece of text, which may start or end inside a block: its bytes crypted, and its ciphertext taken into the hash.
+#![tactic(auto)]
+
 pub mod block;
 
 ghost use Rattle.std.specs.Prelude.{◌≡◌, ◌++◌, ◌≤◌, ◌<◌, ◌^◌, length, drop};
@@ -57,7 +59,7 @@ pub fn crypt_at(
 }
 
 // A hash, and the bytes that wait for the rest of their block.
-#[derive(Drop)]
+#[derive(Clone, Copy)]
 pub struct Held {
     pub sum: Element,
     pub part: [u8; 16],

@@ -7,7 +7,7 @@ use hexadecimal::line::{Line, ends_good, feed, fresh};
 
 // What is kept of a record while it is read: how many of its lines are ended, whether those are good, how many bytes each of
 // them stands for, and the line at hand. The bytes are in four buffers beside it. With four lines ended the record is whole.
-#[derive(Drop)]
+#[derive(Clone, Copy)]
 pub struct Machine {
     pub lines: usize,
     pub good: bool,
@@ -19,7 +19,7 @@ pub struct Machine {
 }
 
 // Where a scan of a chunk stopped.
-#[derive(Drop)]
+#[derive(Clone, Copy)]
 pub struct Stop {
     pub machine: Machine,
     pub at: usize,

@@ -1,4 +1,6 @@
 // The rows of refusals (rules R2.1 to R2.7), as tests on lengths: the lowest that applies is answered (rule R3.2).
+#![tactic(auto)]
+
 ghost use Rattle.std.specs.Prelude.{◌≡◌, ◌-◌};
 ghost use Rattle.answer.specs.Number.{number_of};
 ghost use Rattle.rows.specs.Rows.{key_bad, iv_bad, tag_bad, ad_bad, text_bad, too_short};

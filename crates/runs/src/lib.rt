@@ -1,1 +1,2 @@
 // What holds over any list of calls on a channel: no code, but definitions (specs/) and theorems (proofs/).
+#![tactic(auto)]

@@ -1,4 +1,6 @@
 // The substitution table of the cipher.
+#![tactic(auto)]
+
 ghost use Rattle.std.specs.Prelude.{◌≡◌};
 ghost use Rattle.sbox.specs.Substitution.{substituted, Substitutes};
 

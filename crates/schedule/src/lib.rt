@@ -1,4 +1,6 @@
 // The key schedule: sixty words, of which a key of 16 bytes uses 44 (FIPS 197: KEYEXPANSION).
+#![tactic(auto)]
+
 ghost use Rattle.std.specs.Prelude.{◌≡◌, ◌≤◌, ◌<◌, ◌*◌, length};
 ghost use Rattle.sbox.specs.Substitution.{Substitutes};
 ghost use Rattle.schedule.specs.Schedule.{key_words_in, in_sixty, round_keys};

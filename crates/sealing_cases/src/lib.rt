@@ -1,6 +1,8 @@
 // The cases of seal and open: a line has what each call answered, by the numbers of rules R2.0 to R2.8, and its output.
 //
 // Zeros enough for every length are lent by the program.
+#![tactic(auto)]
+
 use case_lines::{front, say, say_answer, say_count, write_last, write_line};
 use gcm::{open, seal};
 

@@ -1,4 +1,6 @@
 // The cipher's state, `state[c][r]` the byte in row r and column c, and the four steps of a round.
+#![tactic(auto)]
+
 ghost use Rattle.std.specs.Prelude.{◌≡◌, ◌≤◌};
 ghost use Rattle.sbox.specs.Substitution.{Substitutes};
 ghost use Rattle.state.specs.State.{state_of, block_of, shifted_rows};

@@ -1,11 +1,13 @@
 // The calls of a channel by value, each with its answer told as a number (rules R2.0 to R2.11).
+#![tactic(auto)]
+
 ghost use Rattle.told.specs.Call.{OpeningCall, BeginCall, FeedCall, FinishCall, AbandonCall};
 
 use answer::number as number_of;
 use channel_state::{Channel, Mark, Number};
 
 // What a call answered, and the channel that it handed back.
-#[derive(Drop)]
+#[derive(Clone, Copy)]
 pub struct Told {
     pub number: u32,
     pub channel: Channel,

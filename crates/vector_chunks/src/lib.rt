@@ -1,4 +1,6 @@
 // Chunks of the vector program's input, taken in and answered.
+#![tactic(auto)]
+
 ghost use Rattle.std.specs.Prelude.{◌≡◌, ◌+◌, ◌≤◌, ◌<◌, length, take, drop};
 ghost use Rattle.records.specs.Remembered.{Served};
 ghost use Rattle.vector_lines.specs.Line.{answer_line};
@@ -10,7 +12,7 @@ use vector_lines::answer_record;
 const LONGEST_ANSWER: usize = 8227;
 
 // Where a service of a chunk stopped, and how many bytes of the output it wrote.
-#[derive(Drop)]
+#[derive(Clone, Copy)]
 pub struct Service {
     pub machine: Machine,
     pub at: usize,

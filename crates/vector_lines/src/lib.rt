@@ -1,4 +1,6 @@
 // The line of the vector program that answers a record.
+#![tactic(auto)]
+
 ghost use Rattle.std.specs.Prelude.{◌≡◌, ◌≤◌, length};
 ghost use Rattle.records.specs.Answers.{Wrote};
 ghost use Rattle.vector_lines.specs.Line.{answer_line, field_in, record_line};

@@ -1,4 +1,6 @@
 // The vector program: it reads records, hands them on, and writes the answers.
+#![tactic(auto)]
+
 ghost use Rattle.std.specs.Prelude.{◌≡◌, false, ◌≤◌, ◌<◌, length, take};
 ghost use Rattle.records.specs.Answers.{Wrote};
 ghost use Rattle.records.specs.Kept.{last_line};
@@ -35,7 +37,7 @@ fn say_cannot_read() {
 
 // How a run over the input ended: how many turns were left, how many bytes were handed out for what remained at the end of the
 // input, whether a write failed, and whether a read did, so that the rest of the input is unread.
-#[derive(Drop)]
+#[derive(Clone, Copy)]
 struct End {
     turns: u64,
     last: usize,
@@ -114,7 +116,7 @@ fn answer_input(
 }
 
 // How many bytes were handed out, and whether the write failed.
-#[derive(Drop)]
+#[derive(Clone, Copy)]
 struct Handed {
     count: usize,
     failed: bool,
@@ -140,7 +142,7 @@ fn hand_out(bytes: &[u8]) -> Handed
 }
 
 // How far a chunk was taken in, what was read of the record at hand there, and whether a write failed.
-#[derive(Drop)]
+#[derive(Clone, Copy)]
 struct Progress {
     machine: Machine,
     at: usize,
