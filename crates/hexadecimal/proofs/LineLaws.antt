@@ -7,7 +7,7 @@ use Prim.Native.Nat.{ℕ, suc, ◌+◌, ◌*◌, ◌/◌, ◌%◌, ◌≤◌, �
 use native.Mathlib.Nat.{mod-eq_of_lt}
 use native.Mathlib.Numerals.{add-one}
 use native.Mathlib.Omega.{arith}
-use borrow.Author.Tests.{le-leb, leb-true, leb-false, ltb-true, lt-leb, le-ltb, lt-ltb, eqb-true, eqb-false, eq-eqb}
+use borrow.Author.Tests.{le-leb, leb-true, leb-false, ltb-true, lt-leb, eqb-true, eqb-false}
 use lib.Dec.{leb, ltb, eqb}
 use lib.ListN.{length, take, set, length-append}
 use lib.Seq.{take-suc-set}
@@ -16,48 +16,18 @@ use Rattle.hexadecimal.specs.Line.{fresh_line, spoiled_line, fitting, pending, l
 use Rattle.hexadecimal.specs.declared.line.Line.{Line}
 use Rattle.octets.proofs.BytesLaws.{both_true}
 
--- one byte, as the code takes it
+-- what one byte more makes of a line and of its bytes
 
 module _ (line : Line) (b : ℕ) where
-  pub spoiled_before : line.spoiled ≡ true → taken line b ≡ false
-  unfolding taken
-  spoiled_before already = rw already
-
-  pub no_digit : line.spoiled ≡ false → 16 ≤ digit_value b → taken line b ≡ false
-  unfolding taken
-  no_digit clean strange = rw (clean, le-ltb (digit_value b) 16 strange)
-
-  pub too_many : line.spoiled ≡ false → digit_value b < 16 → longest_field * 2 ≤ line.digits → taken line b ≡ false
-  unfolding taken
-  too_many clean small many = rw (clean, lt-ltb (digit_value b) 16 small, le-ltb line.digits 8192 many)
-
-  pub takes : line.spoiled ≡ false → digit_value b < 16 → line.digits < longest_field * 2 → taken line b ≡ true
-  unfolding taken
-  takes clean small few = rw (clean, lt-ltb (digit_value b) 16 small, lt-ltb line.digits 8192 few)
-
-  pub fed_spoils : taken line b ≡ false → spoiled_line ≡ fed line b
+  fed_spoils : taken line b ≡ false → spoiled_line ≡ fed line b
   unfolding fed
   fed_spoils none = rw none
 
-  pub stored_spoils : (bytes : List ℕ) → taken line b ≡ false → bytes ≡ stored line b bytes
-  unfolding stored
-  stored_spoils bytes none = rw none
-
-  pub fed_first : taken line b ≡ true → line.digits % 2 ≡ 0
-      → ◌≡◌ {A = Line} (record { digits = line.digits + 1; half = digit_value b; spoiled = false }) (fed line b)
-  unfolding fed
-  fed_first some even = rw (some, eq-eqb (line.digits % 2) 0 even)
-
-  pub stored_first : (bytes : List ℕ) → taken line b ≡ true → line.digits % 2 ≡ 0 → bytes ≡ stored line b bytes
+  stored_first : (bytes : List ℕ) → taken line b ≡ true → line.digits % 2 ≡ 0 → bytes ≡ stored line b bytes
   unfolding stored
   stored_first bytes some even = rw (some, even)
 
-  pub fed_second : taken line b ≡ true → line.digits % 2 ≡ 1
-      → ◌≡◌ {A = Line} (record { digits = line.digits + 1; half = 0; spoiled = false }) (fed line b)
-  unfolding fed
-  fed_second some odd = rw (some, odd)
-
-  pub stored_second : (bytes : List ℕ) → taken line b ≡ true → line.digits % 2 ≡ 1
+  stored_second : (bytes : List ℕ) → taken line b ≡ true → line.digits % 2 ≡ 1
       → set bytes (line.digits / 2) (line.half % 16 * 16 + digit_value b) ≡ stored line b bytes
   unfolding stored
   stored_second bytes some odd = rw (some, odd)

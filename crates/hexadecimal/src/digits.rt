@@ -5,6 +5,7 @@ ghost use Rattle.hexadecimal.specs.Hex.{within, digit_value, hex_digit, encoded}
 
 // The value of the hex digit b, in either letter case; 16 for a byte that is none. The three ranges share one value, so that no
 // branch parts figures from letters: among digits it would go either way at random, which costs more than all the rest.
+#[tactic(auto, unfolding(crate::specs::Hex::digit_value))]
 pub fn digit_value(b: u8) -> u8
     ensures { result ≡ digit_value b }
 {
@@ -32,6 +33,7 @@ fn between(from: u8, to: u8, b: u8) -> bool
 }
 
 // The digit of n, in lower case.
+#[tactic(auto, unfolding(crate::specs::Hex::hex_digit))]
 pub fn hex_digit(n: u8) -> u8
     requires { n < 16 }
     ensures { result ≡ hex_digit n }

@@ -39,6 +39,7 @@ fn spoilt() -> Line
 }
 
 // The line with the byte b behind it. A second digit puts a byte into the buffer.
+#[tactic(auto, unfolding(crate::specs::Line::fed, crate::specs::Line::stored, crate::specs::Line::taken))]
 pub fn feed(buffer: &mut [u8; 4096], line: Line, b: u8) -> Line
     ensures { (result ≡ fed line b) × (buffer.new ≡ stored line b buffer.old) }
 {
@@ -69,6 +70,7 @@ pub fn feed(buffer: &mut [u8; 4096], line: Line, b: u8) -> Line
 }
 
 // The line, ended here, is good.
+#[tactic(auto, unfolding(crate::specs::Line::ends_good))]
 pub fn ends_good(line: Line) -> bool
     ensures { result ≡ ends_good line }
 {
