@@ -1,16 +1,14 @@
--- `hash_field::times_a` meets its contract: half of a block is each half's half, with the upper half's lowest bit on top of the lower
--- one, and e1 reaches the upper half only.
+-- Half of a block is each half's half, with the upper half's lowest bit on top of the lower one, and e1 reaches the upper half
+-- only.
 use mathlib.Core.Path.{◌≡◌, sym, ap, ap₂, ◌∙◌}
 use Prim.Native.Nat.{ℕ, ◌+◌, ◌*◌, ◌/◌, ◌%◌, ◌^◌, ◌<◌}
 use native.Mathlib.Nat.{mul_assoc, add-zero}
 use native.Mathlib.Omega.{arith}
-use borrow.Author.Rules.{rules}
 use lib.Bits.{bit_xor, bit_or, block_half, block_odd, xor_block, xor_zero_r, or_shifted_r}
 use lib.Pow.{pow_pos, low}
 use Rattle.hash_field.specs.Element.{value_of}
 use Rattle.hash_field.specs.Field.{times_a}
-use Rattle.hash_field.proofs.times_a.Statement.{statement}
-use Rattle.hash_field.proofs.times_a.Tie as tie
+use Rattle.hash_field.proofs.times_a.Goals as goal
 
 -- e1 and seven zero bytes
 abbrev top : ℕ
@@ -30,14 +28,6 @@ halved h l below =
     ∙ ap (λ (r : ℕ). bit_xor (h / 2) (l % 2 * top) * 2 ^ 64 + r)
     (xor_zero_r lower ∙ sym (or_shifted_r (h % 2) 63 (l / 2) (omega arith)) ∙ ap (bit_or (l / 2)) (sym shifted))
 
-mul-t4 : tie.Need-overflow-mul-t4
-mul-t4 c = search rules
-
-returns : tie.Need-returns
+pub returns : goal.returns
 unfolding value_of
-returns c =
-    let y = c.before.before.before.before.args.y in
-    sym (halved y.high y.low (omega arith))
-
-pub times-a-spec : {M : Type 1} → statement M
-times-a-spec = tie.close (tie.spec mul-t4 returns)
+returns c = sym (halved c.args.y.high c.args.y.low (omega arith))
