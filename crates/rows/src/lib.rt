@@ -62,6 +62,7 @@ fn less(a: usize, b: usize) -> usize
 }
 
 // Rows 1 to 5.
+#[tactic(auto, unfolding(crate::specs::Rows::lowest))]
 fn length_answer(key: usize, iv: usize, ad: usize, text: usize, tag: usize) -> Answer
     ensures { number_of result ≡ lowest 1 (length_rows key iv ad text tag) }
 {
@@ -84,6 +85,7 @@ fn length_answer(key: usize, iv: usize, ad: usize, text: usize, tag: usize) -> A
 }
 
 // Row 1: a key that has neither 16 nor 32 bytes.
+#[tactic(auto, unfolding(crate::specs::Rows::key_bad))]
 pub fn key_bad(n: usize) -> bool
     ensures { result ≡ key_bad n }
 {
@@ -94,6 +96,7 @@ pub fn key_bad(n: usize) -> bool
 }
 
 // Row 2: an empty IV, or one over the limit.
+#[tactic(auto, unfolding(crate::specs::Rows::iv_bad))]
 fn iv_bad(n: usize) -> bool
     ensures { result ≡ iv_bad n }
 {
@@ -104,6 +107,7 @@ fn iv_bad(n: usize) -> bool
 }
 
 // Row 3: a tag length below 12 or above 16.
+#[tactic(auto, unfolding(crate::specs::Rows::tag_bad))]
 pub fn tag_bad(n: usize) -> bool
     ensures { result ≡ tag_bad n }
 {
