@@ -1,18 +1,13 @@
--- `ledger::window::mark` meets its contract: a bit below 64 is set in the lower half, one from 64 to 127 in the upper half.
-use mathlib.Core.Path.{◌≡◌, sym, ap, ◌∙◌}
-use mathlib.Core.Bool.{Bool, cond}
-use Prim.Native.Nat.{ℕ, ◌+◌, ◌-◌, ◌*◌, ◌%◌, ◌^◌, ◌<◌}
+-- A bit below 64 is set in the lower half, one from 64 to 127 in the upper half.
+use Rattle.std.proofs.Common.{◌≡◌, sym, ap, ◌∙◌, Bool, cond, ℕ, ◌+◌, ◌-◌, ◌*◌, ◌%◌, ◌^◌, ◌<◌, arith}
 use native.Mathlib.Nat.{one-mul, mod-eq_of_lt}
-use native.Mathlib.Omega.{arith}
-use borrow.Author.Rules.{rules}
 use borrow.Author.Tests.{lt-ltb, le-ltb}
 use lib.Bits.{bit_or, or_lt}
 use lib.Pow.{pow-lt, pow-add}
 use Rattle.ledger.specs.History.{reach}
 use Rattle.ledger.specs.Ledger.{window_of, ledger_of, with_mark, marked_at}
 use Rattle.ledger.proofs.WindowLaws.{ledger_halves, ledger_window, or_near, or_far}
-use Rattle.ledger.proofs.window.mark.Statement.{statement}
-use Rattle.ledger.proofs.window.mark.Tie as tie
+use Rattle.ledger.proofs.window.mark.Goals as goal
 
 -- the code's 1 << k
 bit : (k : ℕ) → k < 64 → 1 * 2 ^ k % 2 ^ 64 ≡ 2 ^ k
@@ -39,35 +34,26 @@ module _ (top f n : ℕ) (below : n < 2 ^ 64) where
       (sym (reached (f * 2 ^ 64 + n) (k + 64) (omega arith)
       ∙ ap (bit_or (f * 2 ^ 64 + n)) (pow-add 2 k 64) ∙ or_far 64 f n (2 ^ k) below))
 
-shl-t4 : tie.Need-overflow-shl-t4
-shl-t4 c = search rules
-
-returns : tie.Need-returns
+pub returns-then-d-lt64 : goal.returns-then-d-lt64
 unfolding marked_at window_of
-returns c =
-    let l = c.before.before.args.l in
-    in_near l.high l.far l.near (omega arith) c.before.before.args.d (omega arith)
+returns-then-d-lt64 c =
+    let l = c.args.l in
+    in_near l.high l.far l.near (omega arith) c.args.d (omega arith)
 
-shl-t7 : tie.Need-overflow-shl-t7
-shl-t7 c = search rules
-
-returns-2 : tie.Need-returns-2
+pub returns-then-d-lt-REACH : goal.returns-then-d-lt-REACH
 unfolding marked_at window_of
-returns-2 c =
-    let l = c.before.before.before.args.l in
-    let d = c.before.before.before.args.d in
+returns-then-d-lt-REACH c =
+    let l = c.args.l in
+    let d = c.args.d in
     let place : d - 64 + 64 ≡ d = omega arith in
     in-far l.high l.far l.near (omega arith) (d - 64) (omega arith)
     ∙ ap (λ (k : ℕ). ledger_of l.high (with_mark (window_of l) k)) place
 
-returns-3 : tie.Need-returns-3
+pub returns : goal.returns
 unfolding marked_at with_mark
-returns-3 c =
-    let l = c.before.before.args.l in
-    let d = c.before.before.args.d in
+returns c =
+    let l = c.args.l in
+    let d = c.args.d in
     let w = window_of l in
     sym (ap (λ (b : Bool). ledger_of l.high (cond b (bit_or w (2 ^ d)) w)) (le-ltb d reach (omega arith))
     ∙ ledger_window l (omega arith))
-
-pub mark_spec : {M : Type 1} → statement M
-mark_spec = tie.close (tie.spec shl-t4 returns shl-t7 returns-2 returns-3)

@@ -1,19 +1,14 @@
--- `ledger::window::shift` meets its contract: by 128 or more nothing is left, by 64 or more the lower half moves into the upper
--- one, and by less the lower half's top bits are carried into the upper one.
-use mathlib.Core.Path.{◌≡◌, sym, ap, ◌∙◌, subst}
-use mathlib.Core.Bool.{Bool, cond}
-use Prim.Native.Nat.{ℕ, ◌+◌, ◌-◌, ◌*◌, ◌/◌, ◌%◌, ◌^◌, ◌<◌}
+-- By 128 or more nothing is left, by 64 or more the lower half moves into the upper one, and by less the lower half's top bits are
+-- carried into the upper one.
+use Rattle.std.proofs.Common.{◌≡◌, sym, ap, ◌∙◌, subst, Bool, cond, ℕ, ◌+◌, ◌-◌, ◌*◌, ◌/◌, ◌%◌, ◌^◌, ◌<◌, arith}
 use native.Mathlib.Nat.{mod-lt}
-use native.Mathlib.Omega.{arith}
-use borrow.Author.Rules.{rules}
 use borrow.Author.Tests.{lt-ltb, le-ltb}
 use lib.Bits.{bit_or}
 use lib.Pow.{pow_pos}
 use Rattle.ledger.specs.History.{reach}
 use Rattle.ledger.specs.Ledger.{window_of, ledger_of, shifted_by}
 use Rattle.ledger.proofs.WindowLaws.{ledger_halves, shift_within, shift_across}
-use Rattle.ledger.proofs.window.shift.Statement.{statement}
-use Rattle.ledger.proofs.window.shift.Tie as tie
+use Rattle.ledger.proofs.window.shift.Goals as goal
 
 kept : (w k : ℕ) → k < reach → shifted_by w k ≡ w * 2 ^ k % 2 ^ reach
 unfolding shifted_by
@@ -41,44 +36,26 @@ module _ (top f n : ℕ) where
           ≡ bit_or (f * 2 ^ k % 2 ^ m) (n / 2 ^ j) * 2 ^ m + n * 2 ^ k % 2 ^ m)
           width (shift_within j k f n (subst (λ (m : ℕ). n < 2 ^ m) (sym width) below))
 
-returns : tie.Need-returns
+pub returns-then-k-ge-REACH : goal.returns-then-k-ge-REACH
 unfolding ledger_of shifted_by
-returns c =
-    let l = c.before.args.l in
-    let k = c.before.args.k in
+returns-then-k-ge-REACH c =
+    let l = c.args.l in
+    let k = c.args.k in
     let w = window_of l in
     sym (ap (λ (b : Bool). ledger_of l.high (cond b (w * 2 ^ k % 2 ^ reach) 0)) (le-ltb k reach (omega arith)))
 
-shl-t5 : tie.Need-overflow-shl-t5
-shl-t5 c = search rules
-
-returns-2 : tie.Need-returns-2
+pub returns-then-k-ge64 : goal.returns-then-k-ge64
 unfolding window_of
-returns-2 c =
-    let l = c.before.before.before.args.l in
-    let k = c.before.before.before.args.k in
+returns-then-k-ge64 c =
+    let l = c.args.l in
+    let k = c.args.k in
     let total : k - 64 + 64 ≡ k = omega arith in
     by-many l.high l.far l.near (k - 64) (omega arith)
     ∙ ap (λ (i : ℕ). ledger_of l.high (shifted_by (window_of l) i)) total
 
-shl-t6 : tie.Need-overflow-shl-t6
-shl-t6 c = search rules
-
-shl-t7 : tie.Need-overflow-shl-t7
-shl-t7 c = search rules
-
-sub-t8 : tie.Need-overflow-sub-t8
-sub-t8 c = search rules
-
-shr-t9 : tie.Need-overflow-shr-t9
-shr-t9 c = search rules
-
-returns-3 : tie.Need-returns-3
+pub returns : goal.returns
 unfolding window_of
-returns-3 c =
-    let l = c.before.before.before.before.before.args.l in
-    let k = c.before.before.before.before.before.args.k in
+returns c =
+    let l = c.args.l in
+    let k = c.args.k in
     by-few l.high l.far l.near (64 - k) k (omega arith) (omega arith)
-
-pub shift-spec : {M : Type 1} → statement M
-shift-spec = tie.close (tie.spec returns shl-t5 returns-2 shl-t6 shl-t7 sub-t8 shr-t9 returns-3)
