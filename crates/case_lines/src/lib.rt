@@ -5,27 +5,25 @@ ghost use Rattle.std.specs.Prelude.{◌≡◌, take};
 
 use answer::{Answer, number};
 use hexadecimal::digits::hex_digit;
-use libc::STDOUT_FILENO;
+use std::io;
 
-pub fn say(words: &[u8]) {
-    io::write_all(STDOUT_FILENO, words);
+pub fn say(rt: &impl Print, words: &[u8]) -> io::Result<()> {
+    rt.write_all(words)
 }
 
 // A call's answer, by its number (rules R2.0 to R2.11).
-pub fn say_answer(a: Answer) {
-    say(b" ");
-    io::print_decimal(STDOUT_FILENO, number(a) as u64);
+pub fn say_answer(rt: &impl Print, a: Answer) -> io::Result<()> {
+    print!(rt; " {}", number(a))
 }
 
-pub fn say_count(n: usize) {
-    say(b", bytes ");
-    io::print_decimal(STDOUT_FILENO, n as u64);
+pub fn say_count(rt: &impl Print, n: usize) -> io::Result<()> {
+    print!(rt; ", bytes {n}")
 }
 
-pub fn write_line(name: &[u8], bytes: &[u8]) {
-    say(name);
-    write_hex(bytes);
-    say(b"\n");
+pub fn write_line(rt: &impl Print, name: &[u8], bytes: &[u8]) -> io::Result<()> {
+    say(rt, name)?;
+    write_hex(rt, bytes)?;
+    say(rt, b"\n")
 }
 
 // The first n bytes, or all where there are fewer.
@@ -39,20 +37,19 @@ pub fn front(bytes: &[u8], n: usize) -> &[u8]
 }
 
 // The last sixteen bytes, behind their name.
-pub fn write_last(name: &[u8], bytes: &[u8]) {
+pub fn write_last(rt: &impl Print, name: &[u8], bytes: &[u8]) -> io::Result<()> {
     let n = bytes.len();
     if n >= 16 {
-        write_line(name, &bytes[n - 16..]);
+        write_line(rt, name, &bytes[n - 16..])?;
     }
+    Ok(())
 }
 
-pub fn write_hex(bytes: &[u8]) {
-    let mut i = 0;
-    while i < bytes.len() {
-        let pair = pair_of(bytes[i]);
-        io::write_all(STDOUT_FILENO, &pair);
-        i += 1;
+pub fn write_hex(rt: &impl Print, bytes: &[u8]) -> io::Result<()> {
+    for b in bytes {
+        rt.write_all(&pair_of(*b))?;
     }
+    Ok(())
 }
 
 fn pair_of(b: u8) -> [u8; 2] {
