@@ -3,7 +3,7 @@ use Rattle.std.specs.Prelude.{◌≡◌, Bool, false, true, ℕ, ◌+◌, ◌<�
 use mathlib.Core.List.{List, ◌++◌, Memᴰ}
 use Rattle.octets.specs.Bytes.{joined}
 use Rattle.records.specs.Records.{Answering, output_of}
-use Rattle.records.specs.Reading.{State, more, start, after, written}
+use Rattle.records.specs.Reading.{State, more, start, written}
 use Rattle.records.specs.Remembered.{Remembers, Followed}
 use Rattle.records.specs.declared.machine.Machine.{Machine}
 

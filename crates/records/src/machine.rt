@@ -41,6 +41,7 @@ pub fn ready() -> Machine
 }
 
 // Whether something was read of a record that is not whole.
+#[tactic(auto, unfolding(crate::specs::Kept::remaining))]
 pub fn remains(m: Machine) -> bool
     ensures { result ≡ remaining m }
 {
@@ -125,6 +126,7 @@ fn with_line(m: Machine, line: Line) -> Machine
 }
 
 // The line at hand is ended.
+#[tactic(auto, unfolding(crate::specs::Kept::line_ended))]
 fn end_line(m: Machine) -> Machine
     ensures { result ≡ line_ended m }
 {
