@@ -4,7 +4,8 @@ use mathlib.Core.Path.{◌≡◌, refl, ap}
 use mathlib.Core.Bool.{◌&&◌}
 use mathlib.Core.Option.{Option, none, some}
 use mathlib.Core.List.{List, [], ◌∷◌, ◌++◌}
-use Prim.Native.Nat.{ℕ, suc}
+use Prim.Native.Nat.{ℕ, suc, ◌≤◌}
+use native.Mathlib.Omega.{arith}
 use lib.Dec.{T}
 use seplogic.Ra.Ura.{Ura}
 use mir.Syntax.{Ty, copy, place, deref, field, Body, seq, assign, addr_of, aggregate}
@@ -51,6 +52,20 @@ again_at [] s d = []
 again_at (as_is v ∷ gs) s d = s ∷ again_at gs (suc s) d
 again_at (ref_again τ b o ∷ gs) s d = d ∷ again_at gs (suc s) (suc d)
 again_at (slice_again τ b o n ∷ gs) s d = suc d ∷ again_at gs (suc s) (suc (suc d))
+
+-- the first local that is still free then
+abbrev pub again_free : List Goes → ℕ → ℕ
+again_free [] d = d
+again_free (as_is v ∷ gs) d = again_free gs d
+again_free (ref_again τ b o ∷ gs) d = again_free gs (suc d)
+again_free (slice_again τ b o n ∷ gs) d = again_free gs (suc (suc d))
+
+pub again_past : (gs : List Goes) (d : ℕ) → d ≤ again_free gs d
+again_past [] d = omega arith
+again_past (as_is v ∷ gs) d = again_past gs d
+again_past (ref_again τ b o ∷ gs) d = let h : suc d ≤ again_free gs (suc d) = again_past gs (suc d) in omega arith
+again_past (slice_again τ b o n ∷ gs) d =
+    let h : suc (suc d) ≤ again_free gs (suc (suc d)) = again_past gs (suc (suc d)) in omega arith
 
 abbrev pub again_holds : List Goes → (d : ℕ) → List (Option Val) → List (Option Val)
 again_holds [] d ms = ms

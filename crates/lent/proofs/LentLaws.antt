@@ -9,7 +9,7 @@ use mathlib.Core.List.{List, [], ◌∷◌, ◌++◌}
 use Prim.Native.Nat.{ℕ, suc, ◌<◌, ◌^◌}
 use lib.ListN.{length}
 use seplogic.Ra.Ura.{Ura}
-use mir.Syntax.{Name, Width, Lifetime, named, w32, Fn}
+use mir.Syntax.{Callee, Width, Lifetime, named, w32, Fn}
 use mir.Val.{Val, vint, vptr}
 use base.Logic.{SProp, ent, sep, ex, via, emp, id⊢, fst∗, snd∗}
 use base.Fml.{Lft, Fml, ftrue, fsep, flft, fres}
@@ -27,7 +27,7 @@ use denote.Laws.{Is, Ises, Are, Tells, Tellss, Spells, valss, Lawful, Lawfuls, T
 use denote.Memory.{lone}
 use denote.Plain.{UInt, uint_Tells, uint_Lawful, uint_Makes}
 use denote.Builtin.{u32}
-use denote.Ref.{MutRef, ShrRef, Bor, shr_vals, mut_Tells, mut_Lawful, shr_Tells, shr_Lawful}
+use denote.Ref.{MutRef, ShrRef, MutBor, mut_vals, mut_Tells, mut_Lawful, shr_Tells, shr_Lawful}
 use denote.Slice.{ShrSlice, MutSlice, slice_val, shr_slice_Tells, shr_slice_Lawful, mut_slice_Tells, mut_slice_Lawful}
 use denote.Exit.{yes, Last, left, Seen, see}
 use denote.Signature.{Signature, types_at}
@@ -51,14 +51,14 @@ word w = record { goes = λ x. as_is (vint w x); tells = uint_Tells w; lawful = 
 module _ {ℓ : Lifetime} {κ : Lft} (R : RattleType) where
   abbrev pub lent_in : Passes (ShrRef ℓ κ R)
   lent_in = record {
-    goes = λ x. as_is (vptr x.ptr.0 x.ptr.1);
+    goes = λ x. as_is (vptr x.ref_ptr.0 x.ref_ptr.1);
     tells = shr_Tells ℓ κ R;
     lawful = λ 𝓛. shr_Lawful 𝓛 ℓ κ R;
   }
 
   abbrev pub lent_out : Passes (MutRef ℓ κ R)
   lent_out = record {
-    goes = λ x. ref_again (lone R.mir) x.ptr.0 x.ptr.1;
+    goes = λ x. ref_again (lone R.mir) x.ref_ptr.0 x.ref_ptr.1;
     tells = mut_Tells ℓ κ R;
     lawful = λ 𝓛. mut_Lawful 𝓛 ℓ κ R;
   }
@@ -200,7 +200,7 @@ module _ {M : Type 1} {𝓤 : Ura M} (𝓛 : Logic 𝓤) (𝓜 : Model 𝓤 𝓛
   takes κs = if_taken taken S (shared κs)
 
   module _ (f-says : Says 𝓛 (suc n) lends u32) (g-says : Says 𝓛 n takes (row Answer)) (env : Routine.Env) (fn : Fn)
-      (#g : Name) where
+      (#g : Callee) where
     abbrev f : Contract 𝓤
     f = pact 𝓛 (suc n) lends u32 f-says
 
@@ -213,7 +213,7 @@ module _ {M : Type 1} {𝓤 : Ura M} (𝓛 : Logic 𝓤) (𝓜 : Model 𝓤 𝓛
     abbrev Λ : Loops 𝓤 H
     Λ = (tables 𝓤 H 𝓜 𝓡 env).Λ
 
-    module _ (κs : Lfts (suc n)) (x : Bor Struct.D) (a : Denots (shared κs.1)) where
+    module _ (κs : Lfts (suc n)) (x : MutBor Struct.D) (a : Denots (shared κs.1)) where
       abbrev Rs : List RattleType
       Rs = shared κs.1
 
@@ -248,7 +248,7 @@ module _ {M : Type 1} {𝓤 : Ura M} (𝓛 : Logic 𝓤) (𝓜 : Model 𝓤 𝓛
         live = toks 𝓛 n κs.1 qs.1
 
         abbrev to_f : f.Ghost
-        to_f = ((κs, qs, tt, (x, a), (shr_vals x, vss)), tt)
+        to_f = ((κs, qs, tt, (x, a), (mut_vals x, vss)), tt)
 
         abbrev to_g : g.Ghost
         to_g = ((κs.1, qs.1, tt, given, vals_given S Rs taken (u ∷ []) vss), tt)
@@ -280,18 +280,18 @@ module _ {M : Type 1} {𝓤 : Ura M} (𝓛 : Logic 𝓤) (𝓜 : Model 𝓤 𝓛
             (raw live ⊛ some (λ (ws : Lasts Gs given). ‵ (lasts Gs given ws) ⊛ raw (said_by_g r ws)))) ∵ updating ! $ at_once ! $
             show ! (λ (m : ℕ). sep 𝓤 (sep 𝓤 (toks 𝓛 (suc n) κs qs) (sem 𝓛 (u32.own_val m (vint w32 (number r) ∷ []))))
             (ex 𝓤 (tells m))) (number r) $
-            use1 𝓛 (‵ (fres x.name (S.coded.code (stored r)))) (𝓛.names.obs-res x.name (S.coded.code (stored r))) $
-            move ! (1 ∷ []) $ drop ! $ move ! (2 ∷ []) $ split ! $
-            -- [live; what g says; res; lft]
+            use1 𝓛 (‵ (fres x.ghost_name (S.coded.code (stored r)))) (𝓛.names.obs-res x.ghost_name (S.coded.code (stored r))) $
+            fjoin ! $ move ! (2 ∷ []) $ split ! $
+            -- [live; what g says; res with the borrow; lft]
             move ! (3 ∷ 0 ∷ []) $ join ! $ owned ! u32 (Is u32) (uint_Makes 𝓛 w32) (number r) (vint w32 (number r) ∷ [])
             (refl, fits) $ move ! (1 ∷ 0 ∷ []) $ join ! $ frame ! $
             pick ! (λ ws. show ! (tells (number r)) (stored r, rest_of ws) $ split ! $
             use1 𝓛 (‵ (lasts Rs a (rest_of ws))) (leaves S Rs x.now a 𝓛 taken ws) $ move ! (1 ∷ []) $
             use1 𝓛 (raw (said_by_f (number r) (stored r, rest_of ws))) (alike r ws) $ move ! (2 ∷ 1 ∷ []) $ fjoin ! $ done !)
 
-        met_here : ent 𝓤 (f.pre to_f) (WpFn 𝓤 H C Λ fn (shr_vals x ++ flat Rs vss) (f.post to_f))
+        met_here : ent 𝓤 (f.pre to_f) (WpFn 𝓤 H C Λ fn (mut_vals x ++ flat Rs vss) (f.post to_f))
         unfolding tables_of
-        met_here = qed 𝓛 (((‵ (flft κs.0 qs.0) ⊛ raw live) ⊛ ‵ (owns (lends κs) (x, a) (shr_vals x, vss))) ∷ ‵ ftrue ∷ []) ∵
+        met_here = qed 𝓛 (((‵ (flft κs.0 qs.0) ⊛ raw live) ⊛ ‵ (owns (lends κs) (x, a) (mut_vals x, vss))) ∷ ‵ ftrue ∷ []) ∵
             split ! $ move ! (1 ∷ []) $ fsplit ! $ fsplit3 ! $ drop ! $ move ! (3 ∷ []) $ split ! $
             -- [lft; live; obs; bor; owns; nothing]
             move ! (1 ∷ 4 ∷ []) $ join ! $ keep ! (2 ∷ 3 ∷ 1 ∷ 0 ∷ []) $
@@ -301,12 +301,12 @@ module _ {M : Type 1} {𝓤 : Ura M} (𝓛 : Logic 𝓤) (𝓜 : Model 𝓤 𝓛
 
     -- f says what g says; the other parameters are passed on so; f has the code, with locals that fit; f is `#f` there; and g is
     -- proved
-    pub lent_proved : ((κs : Lfts (suc n)) (x : Bor Struct.D) (a : Denots (shared κs.1)) → Alike κs x a)
+    pub lent_proved : ((κs : Lfts (suc n)) (x : MutBor Struct.D) (a : Denots (shared κs.1)) → Alike κs x a)
         → (pass : (κs : Lfts n) → AllPass (shared κs))
         → ((κs : Lfts n) (a : Denots (shared κs))
         → Typed (mirs (shared κs)) (flat (shared κs) (valss (shared κs) (spelled (shared κs) (pass κs)) a))
         → Lends taken Z fn #g (all_go (shared κs) (pass κs) a))
-        → (#f : Name) → Closed 𝓤 H C Λ #f fn → (routine : Routine.Routine) → env #g ≡ routine → Triple 𝓤 (𝓡.run routine) g
+        → (#f : Callee) → Closed 𝓤 H C Λ #f fn → (routine : Routine.Routine) → env #g ≡ routine → Triple 𝓤 (𝓡.run routine) g
         → Triple 𝓤 (C #f) f
     lent_proved alike pass code #f closed routine is-g met = entered 𝓤 H f C Λ #f fn closed (λ z.
         let κs : Lfts (suc n) = z.0.0 in

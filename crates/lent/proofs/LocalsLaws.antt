@@ -10,7 +10,7 @@ use Prim.Native.Nat.{ℕ, zero, suc, ◌+◌}
 use lib.Dec.{T}
 use lib.ListN.{get_or}
 use seplogic.Ra.Ura.{Ura}
-use seplogic.Ra.TreeShare.{full_share}
+use base.Fraction.{full_share}
 use mir.Syntax.{Sym, Ty, Tys, ty_struct, ty_enum, ttnil, Local, local, Opd, copy, place}
 use mir.Fields.{get_v, set_v}
 use mir.Val.{Val, Vals, vstruct, has_ty, WT}
@@ -46,6 +46,13 @@ holds (v ∷ vs) = some v ∷ holds vs
 pub held_there : (ms : List (Option Val)) (i : ℕ) (v : Val) → held (hold ms i v) i ≡ some v
 held_there ms zero v = refl
 held_there ms (suc i) v = held_there (tail ms) i v
+
+-- a local that is written leaves the others as they are
+pub held_elsewhere : (ms : List (Option Val)) (i j : ℕ) (v : Val) → (i ≡ j → ⊥) → held (hold ms i v) j ≡ held ms j
+held_elsewhere ms zero zero v apart = absurd (apart refl)
+held_elsewhere ms zero (suc j) v apart = refl
+held_elsewhere ms (suc i) zero v apart = refl
+held_elsewhere ms (suc i) (suc j) v apart = held_elsewhere (tail ms) i j v (λ e. apart (ap suc e))
 
 -- ---- the locals' types, each with its block
 abbrev pub Locals : Type 0
@@ -168,7 +175,8 @@ module _ {M : Type 1} {𝓤 : Ura M} {𝓛 : Logic 𝓤} {K : Type 0} where
   pub all_allocated : K → {Γ : List (Item 𝓤)} (ls : List Local) {Kt : Locals → Goal 𝓤 H}
       → ((bs : Blocks ls) → Seq K 𝓛 (slots (placed ls bs) [] ++ Γ) (Kt (placed ls bs))) → Seq K 𝓛 Γ (allocs ls Kt)
   all_allocated t [] k = alloc0 t $ k tt
-  all_allocated t {Γ} (local τ h ∷ ls) {Kt} k = alloc1 t (λ b. all_allocated t ls (λ bs.
+  all_allocated t {Γ} (local τ h ∷ ls) {Kt} k =
+      alloc1 t (λ b. all_allocated t {Γ = ‵ (froom τ b zero) ∷ ‵ (fdies τ b) ∷ Γ} ls (λ bs.
       let Δ : List (Item 𝓤) = slots (placed ls bs) [] in
       let Θ : List (Item 𝓤) = ‵ (froom τ b zero) ∷ ‵ (fdies τ b) ∷ [] in
       by t (rw append_assoc at (cut⊢ 𝓛 (Δ ++ Θ) (Θ ++ Δ) Γ (aim 𝓤 H (Kt ((τ, b) ∷ placed ls bs))) (turned 𝓛 Δ Θ)

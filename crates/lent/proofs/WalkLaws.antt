@@ -6,12 +6,13 @@ use mathlib.Core.Path.{◌≡◌, refl, ap, ◌∙◌}
 use mathlib.Core.Bool.{Bool, true, false}
 use mathlib.Core.Option.{Option, none, some}
 use mathlib.Core.List.{List, [], ◌∷◌, ◌++◌}
-use Prim.Native.Nat.{ℕ, suc, ◌<◌, ◌^◌}
+use Prim.Native.Nat.{ℕ, suc, ◌<◌, ◌≤◌, ◌^◌}
+use native.Mathlib.Omega.{arith}
 use lib.Dec.{T}
 use lib.ListN.{length}
 use seplogic.Ra.Ura.{Ura}
-use seplogic.Ra.TreeShare.{full_share}
-use mir.Syntax.{Name, Ty, ty_int, ty_struct, tcons, tnil, w32, copy, place, deref, field, Body, seq, assign, call, return, rv_opd, Fn}
+use base.Fraction.{full_share}
+use mir.Syntax.{Callee, Ty, ty_int, ty_struct, tcons, tnil, w32, copy, place, deref, field, Body, seq, assign, call, return, rv_opd, Fn}
 use mir.Raw.{raw as raw_ty}
 use mir.Val.{Val, vint, vptr, vstruct, vcons, vnil, has_ty, WT}
 use base.Logic.{SProp, ent, sep, ex}
@@ -33,8 +34,8 @@ use denote.Struct.Struct.{Plains, layout}
 use denote.Struct.Declared.{Declared, fields, shape, row}
 use denote.Struct.Laws as LL
 use denote.Triple.Call.{calls_from}
-use Rattle.lent.proofs.LocalsLaws.{Locals, at, there, all_there, and_T, FitParams, Blocks, placed, copies, held, all_held, hold, holds, held_there, slots, sees, sees_in, sets, sees_all, all_allocated, all_stored, all_freed}
-use Rattle.lent.proofs.AgainLaws.{Goes, values, again_code, again_at, again_holds, AgainFits, lent_again}
+use Rattle.lent.proofs.LocalsLaws.{Locals, at, there, all_there, and_T, FitParams, Blocks, placed, copies, held, all_held, hold, holds, held_there, held_elsewhere, slots, sees, sees_in, sets, sees_all, all_allocated, all_stored, all_freed}
+use Rattle.lent.proofs.AgainLaws.{Goes, values, again_code, again_at, again_free, again_past, again_holds, AgainFits, lent_again}
 
 -- a struct that is lent, and the struct that a callee answers with: a number, and the struct that is to be stored
 pub record Lent : Type 2 where
@@ -61,6 +62,10 @@ abbrev free_after : Bool → ℕ → ℕ
 free_after true c = suc c
 free_after false c = c
 
+free_past : (taken : Bool) (c : ℕ) → c ≤ free_after taken c
+free_past true c = omega arith
+free_past false c = omega arith
+
 abbrev copy_code : Bool → ℕ → Ty → Body → Body
 copy_code true c τ rest = seq (assign (place c []) (rv_opd (copy (place 1 (deref τ ∷ []))))) rest
 copy_code false c τ rest = rest
@@ -70,8 +75,8 @@ copy_holds true c u ms = hold ms c u
 copy_holds false c u ms = ms
 
 module _ (taken : Bool) (gs : List Goes) where
-  -- the locals are the result, the lent struct, the other parameters, the answer, the copy if there is one, and those that lend
-  -- again
+  -- the locals are the result, the lent struct, the other parameters, the answer, the copy if there is one, those that lend
+  -- again, and the struct of the answer, which is read before it is stored
   abbrev answer_at : ℕ
   answer_at = suc (suc (length gs))
 
@@ -84,12 +89,23 @@ module _ (taken : Bool) (gs : List Goes) where
   abbrev arguments_at : List ℕ
   arguments_at = if_taken taken copy_at (again_at gs 2 free_at)
 
+  abbrev stored_at : ℕ
+  stored_at = again_free gs free_at
+
+  -- the result, the lent struct and the answer come before it
+  stored_past : suc answer_at ≤ stored_at
+  stored_past =
+      let after_copy : copy_at ≤ free_at = free_past taken copy_at in
+      let after_again : free_at ≤ stored_at = again_past gs free_at in
+      omega arith
+
   -- of the callee's answer the struct is stored where it was lent, and the number is returned
-  abbrev lent_code : Ty → Name → Body
+  abbrev lent_code : Ty → Callee → Body
   lent_code τ callee = copy_code taken copy_at τ (again_code gs 2 free_at
       (seq (call callee (copies arguments_at) (place answer_at []))
-      (seq (assign (place 1 (deref τ ∷ [])) (rv_opd (copy (place answer_at (field 1 ∷ [])))))
-      (seq (assign (place 0 []) (rv_opd (copy (place answer_at (field 0 ∷ []))))) return))))
+      (seq (assign (place stored_at []) (rv_opd (copy (place answer_at (field 1 ∷ [])))))
+      (seq (assign (place 1 (deref τ ∷ [])) (rv_opd (copy (place stored_at []))))
+      (seq (assign (place 0 []) (rv_opd (copy (place answer_at (field 0 ∷ []))))) return)))))
 
   -- what the locals hold when the parameters are stored, p being the pointer to the lent struct u, and when the struct is copied
   abbrev at_first : Val → List (Option Val)
@@ -99,18 +115,18 @@ module _ (taken : Bool) (gs : List Goes) where
   when_copied p u = copy_holds taken copy_at u (at_first p)
 
   -- what the code asks of the locals: the parameters fit; those that it names are there, and of their types; what is lent again
-  -- fits; and at the call the result and the answer hold nothing, and the others what the callee is called on
+  -- fits; and at the call the result, the answer and its struct hold nothing, and the others what the callee is called on
   abbrev LocalsFit : Lent → Locals → Val → Val → Type 0
   LocalsFit Z E p u = FitParams E (p ∷ values gs)
-      × T (all_there E (0 ∷ 1 ∷ answer_at ∷ arguments_at))
-      × ((at E 0).0 ∷ (at E answer_at).0 ∷ if_taken taken (at E copy_at).0 []
-      ≡ ty_int w32 ∷ layout (shape Z.Answer) ∷ if_taken taken (layout (shape Z.Struct)) [])
+      × T (all_there E (0 ∷ 1 ∷ answer_at ∷ stored_at ∷ arguments_at))
+      × ((at E 0).0 ∷ (at E answer_at).0 ∷ (at E stored_at).0 ∷ if_taken taken (at E copy_at).0 []
+      ≡ ty_int w32 ∷ layout (shape Z.Answer) ∷ layout (shape Z.Struct) ∷ if_taken taken (layout (shape Z.Struct)) [])
       × AgainFits E (when_copied p u) gs 2 free_at
-      × (all_held (again_holds gs free_at (when_copied p u)) (0 ∷ 1 ∷ answer_at ∷ arguments_at)
-      ≡ none ∷ some p ∷ none ∷ holds (if_taken taken u (values gs)))
+      × (all_held (again_holds gs free_at (when_copied p u)) (0 ∷ 1 ∷ answer_at ∷ stored_at ∷ arguments_at)
+      ≡ none ∷ some p ∷ none ∷ none ∷ holds (if_taken taken u (values gs)))
 
 -- that a function has this code, and that its locals fit
-pub record Lends (taken : Bool) (Z : Lent) (fn : Fn) (callee : Name) (gs : List Goes) : Type 0 where
+pub record Lends (taken : Bool) (Z : Lent) (fn : Fn) (callee : Callee) (gs : List Goes) : Type 0 where
   pub body_is : fn.body ≡ lent_code taken gs (layout (shape Z.Struct)) callee
   pub fits : (bs : Blocks fn.locals) (b o : ℕ) (u : Val) → LocalsFit taken gs Z (placed fn.locals bs) (vptr b o) u
 
@@ -122,7 +138,7 @@ copy_free (g ∷ gs) = copy_free gs
 -- what a function owns of what is lent to it, which is h now, and i besides
 abbrev pub loan : {M : Type 1} {𝓤 : Ura M} (R : RattleType) → Lft → Share → MutBor R.Denot → R.Denot → Item 𝓤 → List (Item 𝓤)
 loan R κ q x h i =
-    ‵ (fobs x.name (R.coded.code h)) ∷ ‵ (fbor κ (Lies (mem R) x.ptr.0 x.ptr.1 x.name)) ∷ ‵ (flft κ q) ∷ i ∷ []
+    ‵ (fobs x.ghost_name (R.coded.code h)) ∷ ‵ (fbor κ (Lies (mem R) x.ref_ptr.0 x.ref_ptr.1 x.ghost_name)) ∷ ‵ (flft κ q) ∷ i ∷ []
 
 module _ {M : Type 1} {𝓤 : Ura M} (𝓛 : Logic 𝓤) (C : Calls 𝓤 𝓛.H) (Λ : Loops 𝓤 𝓛.H) where
   open 𝓛 use {H}
@@ -138,7 +154,7 @@ module _ {M : Type 1} {𝓤 : Ura M} (𝓛 : Logic 𝓤) (C : Calls 𝓤 𝓛.H)
       assigns ! (of_opd ! (load ! (from ! (hop ! (sees ! (_ ∷ Φ) E ms 1 in-1 held-1) (stop !))) (look_raw ! 0 refl)))
       (from ! (stop !)) (sets ! (_ ∷ Φ) E ms c (and_T (there E c) (all_there E is) in_c).0 free (rw of_c wt)) $ go
 
-  module _ (fm : FmC 𝓤 H 𝓛.laws C) (taken : Bool) (Z : Lent) (fn : Fn) (callee : Name) (gs : List Goes)
+  module _ (fm : FmC 𝓤 H 𝓛.laws C) (taken : Bool) (Z : Lent) (fn : Fn) (callee : Callee) (gs : List Goes)
       (lends : Lends taken Z fn callee gs) where
     open Z use {Struct, struct_laws, struct_plain, Answer, answer_laws, number, stored, answer_type, answer_value, owed}
 
@@ -163,38 +179,48 @@ module _ {M : Type 1} {𝓤 : Ura M} (𝓛 : Logic 𝓤) (C : Calls 𝓤 𝓛.H)
         enter ! C Λ fn (vptr b o ∷ values gs) Kf $ all_allocated ! fn.locals (λ bs.
         let E : Locals = placed fn.locals bs in
         let r-at : ℕ = answer_at taken gs in
+        let s-at : ℕ = stored_at taken gs in
         let args : List ℕ = arguments_at taken gs in
         let m₀ : List (Option Val) = at_first taken gs (vptr b o) in
         let m₁ : List (Option Val) = when_copied taken gs (vptr b o) (spelled h) in
         let m₂ : List (Option Val) = again_holds gs (free_at taken gs) m₁ in
         let ok : LocalsFit taken gs Z E (vptr b o) (spelled h) = lends.fits bs b o (spelled h) in
-        let in-0 : T (there E 0) × T (all_there E (1 ∷ r-at ∷ args)) = and_T (there E 0) _ ok.1 in
-        let in-1 : T (there E 1) × T (all_there E (r-at ∷ args)) = and_T (there E 1) _ in-0.1 in
-        let in-r : T (there E r-at) × T (all_there E args) = and_T (there E r-at) _ in-1.1 in
-        let types : (at E 0).0 ∷ (at E r-at).0 ∷ if_taken taken (at E (suc r-at)).0 []
-        ≡ ty_int w32 ∷ layout (shape Answer) ∷ if_taken taken (layout (shape Struct)) [] = ok.2 in
-        let holding : held m₂ 0 ∷ held m₂ 1 ∷ held m₂ r-at ∷ all_held m₂ args
-        ≡ none ∷ some (vptr b o) ∷ none ∷ holds (if_taken taken (spelled h) (values gs)) = ok.4 in
+        let in-0 : T (there E 0) × T (all_there E (1 ∷ r-at ∷ s-at ∷ args)) = and_T (there E 0) _ ok.1 in
+        let in-1 : T (there E 1) × T (all_there E (r-at ∷ s-at ∷ args)) = and_T (there E 1) _ in-0.1 in
+        let in-r : T (there E r-at) × T (all_there E (s-at ∷ args)) = and_T (there E r-at) _ in-1.1 in
+        let in-s : T (there E s-at) × T (all_there E args) = and_T (there E s-at) _ in-r.1 in
+        let types : (at E 0).0 ∷ (at E r-at).0 ∷ (at E s-at).0 ∷ if_taken taken (at E (suc r-at)).0 []
+        ≡ ty_int w32 ∷ layout (shape Answer) ∷ layout (shape Struct) ∷ if_taken taken (layout (shape Struct)) [] = ok.2 in
+        let holding : held m₂ 0 ∷ held m₂ 1 ∷ held m₂ r-at ∷ held m₂ s-at ∷ all_held m₂ args
+        ≡ none ∷ some (vptr b o) ∷ none ∷ none ∷ holds (if_taken taken (spelled h) (values gs)) = ok.4 in
+        let past : suc r-at ≤ s-at = stored_past taken gs in
         all_stored ! E (vptr b o ∷ values gs) _ ok.0 (regoal ! (λ (bd : Body). runs C Λ E bd (at_ret E Kf)) lends.body_is refl $
         opens ! tt S {h = h} b o (λ us.
         spelt ! S (Is S) (shows 𝓛 S) (LL.vals Struct struct_laws) (LL.tells Struct struct_laws) full_share h us b o $
         move ! (1 ∷ []) $ peeks ! S (Is S) (shows 𝓛 S) h (LL.vals Struct struct_laws h) (λ was. move ! (1 ∷ 0 ∷ []) $
         -- [the lent cell; what is owned; the open borrow; obs; auth; R; the locals]
         copied taken (_ ∷ _ ∷ _ ∷ _ ∷ _ ∷ []) E m₀ (suc r-at) (again_at gs 2 (free_at taken gs)) (layout (shape Struct)) b o
-        (spelled h) in-1.0 refl (copy_free gs) in-r.1 (cc) ((LL.lawful Struct struct_laws 𝓛).typed h _ was).0
+        (spelled h) in-1.0 refl (copy_free gs) in-s.1 (cc) ((LL.lawful Struct struct_laws 𝓛).typed h _ was).0
         (lent_again ! (_ ∷ _ ∷ _ ∷ _ ∷ _ ∷ _ ∷ []) E m₁ gs 2 (free_at taken gs) ok.3 (move ! (5 ∷ []) $
         owned ! S (Is S) (LL.makes Struct struct_plain 𝓛) h _ was $ join ! $
         calls_from ! fm _ (if_taken taken (spelled h) (values gs)) Q calls (sees_all ! (_ ∷ _ ∷ _ ∷ _ ∷ _ ∷ _ ∷ []) E m₂ args
-        (if_taken taken (spelled h) (values gs)) in-r.1 (cc)) (λ v.
+        (if_taken taken (spelled h) (values gs)) in-s.1 (cc)) (λ v.
         use1 𝓛 (later (some' (λ (r : Answer.D). ‵ ((row Answer).own_val r (v ∷ [])) ⊛ raw (R' r)))) (answers v) $ await ! tt $
         pick ! (λ r. split ! $
         peeks ! (row Answer) (Is (row Answer)) (shows 𝓛 (row Answer)) r (v ∷ []) (λ is. drop ! $
         let m₃ : List (Option Val) = hold m₂ r-at v in
-        let m₄ : List (Option Val) = hold m₃ 0 (vint w32 (number r)) in
+        let m₄ : List (Option Val) = hold m₃ s-at (spelled (stored r)) in
+        let m₅ : List (Option Val) = hold m₄ 0 (vint w32 (number r)) in
         let is-v : held m₃ r-at ≡ some (vstruct (vcons (vint w32 (number r)) (vcons (spelled (stored r)) vnil))) =
         held_there m₂ r-at v ∙ ap some (ap only (LL.tells Answer answer_laws r _ is) ∙ answer_value r) in
+        let is-s : held m₃ s-at ≡ none = held_elsewhere m₂ r-at s-at v (λ e. omega arith) ∙ (cc) in
+        let as-before : (j : ℕ) → j ≤ r-at → held m₄ j ≡ held m₃ j =
+        λ j le. held_elsewhere m₃ s-at j (spelled (stored r)) (λ e. omega arith) in
         let of-0 : (at E 0).0 ≡ ty_int w32 = cc in
         let of-r : (at E r-at).0 ≡ layout (shape Answer) = cc in
+        let of-s : (at E s-at).0 ≡ layout (shape Struct) = cc in
+        let fit-s : T (has_ty (layout (shape Struct)) (spelled (stored r))) × WT (spelled (stored r)) =
+        ((LL.lawful Struct struct_laws 𝓛).typed (stored r) _ (owed r _ is).1).0 in
         let is-r : (at E r-at).0 ≡ ty_struct Answer.name (tcons (ty_int w32) (tcons (layout (shape Struct)) tnil)) =
         of-r ∙ answer_type in
         -- [R'; the lent cell; what was owned; the open borrow; obs; auth; the locals]
@@ -202,13 +228,16 @@ module _ {M : Type 1} {𝓤 : Ura M} (𝓛 : Logic 𝓤) (C : Calls 𝓤 𝓛.H)
         (rw of-r ((LL.lawful Answer answer_laws 𝓛).typed r _ is).0)) $
         assigns ! (of_opd ! (load ! (from ! (fld ! (ap (λ (σ : Ty). field_of σ 1) is-r) (stop !)))
         (sees_in ! (_ ∷ _ ∷ _ ∷ _ ∷ _ ∷ _ ∷ []) E m₃ r-at in-r.0 is-r is-v 1 refl)))
-        (from ! (hop ! (sees ! (_ ∷ _ ∷ _ ∷ _ ∷ _ ∷ _ ∷ []) E m₃ 1 in-1.0 (cc)) (stop !)))
-        (store_raw ! 1 refl ((LL.lawful Struct struct_laws 𝓛).typed (stored r) _ (owed r _ is).1).0) $
+        (from ! (stop !)) (sets ! (_ ∷ _ ∷ _ ∷ _ ∷ _ ∷ _ ∷ []) E m₃ s-at in-s.0 is-s (rw of-s fit-s)) $
+        assigns ! (of_opd ! (load ! (from ! (stop !)) (sees ! (_ ∷ _ ∷ _ ∷ _ ∷ _ ∷ _ ∷ []) E m₄ s-at in-s.0
+        (held_there m₃ s-at (spelled (stored r))))))
+        (from ! (hop ! (sees ! (_ ∷ _ ∷ _ ∷ _ ∷ _ ∷ _ ∷ []) E m₄ 1 in-1.0 (as-before 1 (omega arith) ∙ (cc))) (stop !)))
+        (store_raw ! 1 refl fit-s) $
         assigns ! (of_opd ! (load ! (from ! (fld ! (ap (λ (σ : Ty). field_of σ 0) is-r) (stop !)))
-        (sees_in ! (_ ∷ _ ∷ _ ∷ _ ∷ _ ∷ _ ∷ []) E m₃ r-at in-r.0 is-r is-v 0 refl)))
-        (from ! (stop !)) (sets ! (_ ∷ _ ∷ _ ∷ _ ∷ _ ∷ _ ∷ []) E m₃ 0 in-0.0 (cc)
+        (sees_in ! (_ ∷ _ ∷ _ ∷ _ ∷ _ ∷ _ ∷ []) E m₄ r-at in-r.0 is-r (as-before r-at (omega arith) ∙ is-v) 0 refl)))
+        (from ! (stop !)) (sets ! (_ ∷ _ ∷ _ ∷ _ ∷ _ ∷ _ ∷ []) E m₄ 0 in-0.0 (as-before 0 (omega arith) ∙ (cc))
         (rw of-0 (tt, record { fits = (owed r _ is).0 }))) $
         move ! (2 ∷ []) $ drop ! $ owned ! S (Is S) (LL.makes Struct struct_plain 𝓛) (stored r) _ (owed r _ is).1 $
         move ! (2 ∷ 0 ∷ 3 ∷ 4 ∷ 5 ∷ []) $ closes ! tt S (stored r) (spelled (stored r) ∷ []) b o $
-        returns ! (sees ! (_ ∷ _ ∷ _ ∷ _ ∷ []) E m₄ 0 in-0.0 refl) $
-        all_freed ! (_ ∷ _ ∷ _ ∷ _ ∷ []) E m₄ (by ! (ends r (owed r _ is).0)))))))))))
+        returns ! (sees ! (_ ∷ _ ∷ _ ∷ _ ∷ []) E m₅ 0 in-0.0 refl) $
+        all_freed ! (_ ∷ _ ∷ _ ∷ _ ∷ []) E m₅ (by ! (ends r (owed r _ is).0)))))))))))
