@@ -1,0 +1,77 @@
+-- Bytes that fill no block are held; if they fill one, it goes into the hash, then the whole blocks behind it, and the rest is
+-- held.
+use mathlib.Core.Path.{◌≡◌, sym, ap, ap₂, ◌∙◌}
+use mathlib.Core.List.{List, [], ◌++◌, append-nil}
+use Prim.Native.Nat.{ℕ, ◌+◌, ◌-◌, ◌*◌, ◌/◌, ◌^◌, ◌≤◌, ◌<◌}
+use native.Mathlib.Omega.{arith}
+use borrow.Author.Rules.{rules, part_to_end}
+use lib.Bits.{bit_xor}
+use lib.ListN.{length, take, drop, length-append}
+use lib.Seq.{drop-append-add}
+use Rattle.octets.specs.Block.{number_at, padded}
+use Rattle.hash_field.specs.Field.{product}
+use Rattle.hash_field.specs.Element.{value_of, element_of}
+use Rattle.ghash.specs.Hash.{hash_from}
+use Rattle.hash_field.proofs.ElementLaws.{element_value}
+use Rattle.pieces.specs.Piece.{sixteen, sum_after, part_after}
+use Rattle.pieces.proofs.HeldLaws.{sum_short, part_short, sum_fill, part_fill}
+use Rattle.pieces.proofs.absorb_bytes.Goals as goal
+
+-- what the code hashes and holds behind the first block
+abbrev rest_of : List ℕ → List ℕ → List ℕ
+rest_of held more = take (length more - (16 - length held)) (drop (16 - length held) more)
+
+behind : (held more : List ℕ) → length held < 16 → drop 16 (held ++ more) ≡ rest_of held more
+behind held more short =
+    let at : 16 ≡ length held + (16 - length held) = omega arith in
+    ap (λ (n : ℕ). drop n (held ++ more)) at
+    ∙ drop-append-add held more (16 - length held) ∙ sym (part_to_end more (16 - length held))
+
+hashed-fill : (h sum first : ℕ) (s rest : List ℕ) → 16 ≤ length s → drop 16 s ≡ rest
+    → first ≡ product (bit_xor sum (number_at (sixteen s) 0)) h
+    → hash_from h first (padded (take (length rest / 16 * 16) rest)) ≡ sum_after h sum s
+hashed-fill h sum first s rest long left added =
+    ap₂ (λ (a : ℕ) (r : List ℕ). hash_from h a (padded (take (length r / 16 * 16) r))) added (sym left)
+    ∙ sym (sum_fill h sum s long)
+
+held-fill : (s rest : List ℕ) → 16 ≤ length s → drop 16 s ≡ rest
+    → sixteen (take (length rest - length rest / 16 * 16) (drop (length rest / 16 * 16) rest) ++ []) ≡ part_after s
+held-fill s rest long left =
+    ap sixteen (append-nil _ ∙ part_to_end rest (length rest / 16 * 16))
+    ∙ ap (λ (r : List ℕ). sixteen (drop (length r / 16 * 16) r)) (sym left) ∙ sym (part_fill s long)
+
+pub returns-then-held-more-lt16 : goal.returns-then-held-more-lt16
+returns-then-held-more-lt16 c =
+    let held = c.args.held.now in
+    let more = c.args.more.now in
+    let sum = c.args.sum in
+    let s = held ++ more in
+    let size : length s ≡ length held + length more = length-append held more in
+    let short : length s < 16 = omega arith in
+    let low : sum.low < 2 ^ 64 = search rules in
+    record {
+      sum = sym (ap element_of (sum_short (value_of c.args.h) (value_of sum) s short) ∙ element_value sum low);
+      part = c.sixteen_of-block.ensures ∙ sym (part_short s short);
+    }
+
+pub returns : goal.returns
+returns c =
+    let held = c.args.held.now in
+    let more = c.args.more.now in
+    let h = value_of c.args.h in
+    let sum = value_of c.args.sum in
+    let hashed = c.hash_bytes in
+    let s = held ++ more in
+    let rest = rest_of held more in
+    let left : drop 16 s ≡ rest = behind held more c.requires in
+    let size : length s ≡ length held + length more = length-append held more in
+    let long : 16 ≤ length s = omega arith in
+    let low : hashed.result.low < 2 ^ 64 = search (rules, hashed.type_inv) in
+    let first : value_of c.absorb-first.result ≡ product (bit_xor sum (number_at (sixteen s) 0)) h =
+    c.absorb-first.ensures
+    ∙ ap (λ (x : ℕ). product (bit_xor sum x) h)
+    (c.element_of.ensures ∙ ap (λ (t : List ℕ). number_at t 0) c.sixteen_of-block.ensures) in
+    record {
+      sum = sym (element_value hashed.result low) ∙ ap element_of (hashed.ensures ∙ hashed-fill _ _ _ s rest long left first);
+      part = c.sixteen_of.ensures ∙ held-fill s rest long left;
+    }
