@@ -37,7 +37,7 @@ module _ (key iv ad text room : List ℕ) (enough : length text + 16 ≤ length 
     numbered = promise.answer ∙ same_number
 
     -- done: so many bytes, and those are the sealed form
-    pub done-count : number_of r.answer ≡ 0 → r.count ≡ length text + 16
+    done-count : number_of r.answer ≡ 0 → r.count ≡ length text + 16
     done-count done = promise.count ∙ when_done _ 0 (sym promise.answer ∙ done)
 
     pub done_line : number_of r.answer ≡ 0 → answer_line key iv ad text ≡ sealed_line (take r.count left)
