@@ -8,120 +8,129 @@ ghost use Rattle.std.specs.Prelude.{◌≤◌, length};
 use case_lines::{front, say, say_answer, write_hex, write_line};
 use channel::{Step, abandon, begin, feed, finish};
 use channel_state::{Channel, Mark, Number};
+use std::io;
 
 // Numbers around the oldest one that a ledger takes.
-pub fn numbers() {
-    numbers_from_200();
-    numbers_from_the_highest();
-    say(b"\na fresh channel begins 0:");
-    try_number(fresh(), 0);
-    say(b"\n");
+pub fn numbers(rt: &impl Print) -> io::Result<()> {
+    numbers_from_200(rt)?;
+    numbers_from_the_highest(rt)?;
+    say(rt, b"\na fresh channel begins 0:")?;
+    try_number(rt, fresh(), 0)?;
+    say(rt, b"\n")
 }
 
-fn numbers_from_200() {
-    say(b"begin 200, 72, 73, 73 again:");
-    let after_200 = try_number(fresh(), 200);
-    let after_72 = try_number(after_200, 72);
-    let after_73 = try_number(after_72, 73);
-    try_number(after_73, 73);
+fn numbers_from_200(rt: &impl Print) -> io::Result<()> {
+    say(rt, b"begin 200, 72, 73, 73 again:")?;
+    let after_200 = try_number(rt, fresh(), 200)?;
+    let after_72 = try_number(rt, after_200, 72)?;
+    let after_73 = try_number(rt, after_72, 73)?;
+    try_number(rt, after_73, 73)?;
+    Ok(())
 }
 
-fn numbers_from_the_highest() {
-    say(b"\nafter 2^64-1, begin 2^64-129 and 2^64-128:");
+fn numbers_from_the_highest(rt: &impl Print) -> io::Result<()> {
+    say(rt, b"\nafter 2^64-1, begin 2^64-129 and 2^64-128:")?;
     let top = begun(0xffff_ffff_ffff_ffff, b"");
     let after_top = abandon(top);
-    let after_stale = try_number(after_top.channel, 0xffff_ffff_ffff_ff7f);
-    try_number(after_stale, 0xffff_ffff_ffff_ff80);
+    let after_stale = try_number(rt, after_top.channel, 0xffff_ffff_ffff_ff7f)?;
+    try_number(rt, after_stale, 0xffff_ffff_ffff_ff80)?;
+    Ok(())
 }
 
 // A message whose pieces start and end inside blocks, and the same one by the sealer.
-pub fn in_pieces() {
+pub fn in_pieces(rt: &impl Print) -> io::Result<()> {
     let text = *b"The night mail for the outer stations left at ten, and nobody saw it pass by us.";
     let ad = *b"mail, northern line.";
-    feed_pieces(&text, &ad);
-    seal_at_once(&text, &ad);
+    feed_pieces(rt, &text, &ad)?;
+    seal_at_once(rt, &text, &ad)
 }
 
-fn seal_at_once(text: &[u8], ad: &[u8]) {
+fn seal_at_once(rt: &impl Print, text: &[u8], ad: &[u8]) -> io::Result<()> {
     let iv = *b"\x0a\x0b\x0c\x0d\x00\x00\x00\x00\x00\x00\x01\x02";
     let mut sealed = [0u8; 96];
     gcm::seal(&[0u8; 16], &iv, ad, text, 16, &mut sealed);
-    write_line(b"sealed at once: ", &sealed);
+    write_line(rt, b"sealed at once: ", &sealed)
 }
 
 // Each kind of refusal that a channel knows besides a number's.
-pub fn refusals(zeros: &[u8]) {
+pub fn refusals(rt: &impl Print, zeros: &[u8]) -> io::Result<()> {
     let long = front(zeros, 65537);
-    refuse_openings();
-    refuse_dead();
-    refuse_idle();
-    refuse_second_begin();
-    refuse_second_finish();
-    refuse_ad(long);
-    refuse_text(long);
-    refuse_room();
+    refuse_openings(rt)?;
+    refuse_dead(rt)?;
+    refuse_idle(rt)?;
+    refuse_second_begin(rt)?;
+    refuse_second_finish(rt)?;
+    refuse_ad(rt, long)?;
+    refuse_text(rt, long)?;
+    refuse_room(rt)
 }
 
-fn refuse_openings() {
-    refuse_opening(b"opening with a key of 24:", &[0u8; 24], 16);
-    refuse_opening(b"opening with a tag of 11:", &[0u8; 16], 11);
-    refuse_opening(b"opening with a key of 24 and a tag of 11:", &[0u8; 24], 11);
+fn refuse_openings(rt: &impl Print) -> io::Result<()> {
+    refuse_opening(rt, b"opening with a key of 24:", &[0u8; 24], 16)?;
+    refuse_opening(rt, b"opening with a tag of 11:", &[0u8; 16], 11)?;
+    refuse_opening(
+        rt,
+        b"opening with a key of 24 and a tag of 11:",
+        &[0u8; 24],
+        11,
+    )
 }
 
-fn refuse_opening(name: &[u8], key: &[u8], tag_len: usize) {
-    say(name);
-    say_step(channel::open(key, mark(), tag_len));
-    say(b"\n");
+fn refuse_opening(rt: &impl Print, name: &[u8], key: &[u8], tag_len: usize) -> io::Result<()> {
+    say(rt, name)?;
+    say_step(rt, channel::open(key, mark(), tag_len))?;
+    say(rt, b"\n")
 }
 
-fn refuse_dead() {
+fn refuse_dead(rt: &impl Print) -> io::Result<()> {
     let dead = opened(b"");
-    say(b"begin, feed, finish, abandon on the dead channel:");
-    say_begin(dead, 1, b"");
-    refuse_without_message(dead);
+    say(rt, b"begin, feed, finish, abandon on the dead channel:")?;
+    say_begin(rt, dead, 1, b"")?;
+    refuse_without_message(rt, dead)
 }
 
-fn refuse_idle() {
-    say(b"feed, finish, abandon with no message open:");
-    refuse_without_message(fresh());
+fn refuse_idle(rt: &impl Print) -> io::Result<()> {
+    say(rt, b"feed, finish, abandon with no message open:")?;
+    refuse_without_message(rt, fresh())
 }
 
-fn refuse_without_message(c: Channel) {
-    say_feed(c, b"a", &mut [0u8; 1]);
-    say_finish(c);
-    say_step(abandon(c));
-    say(b"\n");
+fn refuse_without_message(rt: &impl Print, c: Channel) -> io::Result<()> {
+    say_feed(rt, c, b"a", &mut [0u8; 1])?;
+    say_finish(rt, c)?;
+    say_step(rt, abandon(c))?;
+    say(rt, b"\n")
 }
 
-fn refuse_second_begin() {
-    say(b"begin while a message is open:");
-    say_begin(begun(1, b""), 2, b"");
-    say(b"\n");
+fn refuse_second_begin(rt: &impl Print) -> io::Result<()> {
+    say(rt, b"begin while a message is open:")?;
+    say_begin(rt, begun(1, b""), 2, b"")?;
+    say(rt, b"\n")
 }
 
-fn refuse_second_finish() {
-    say(b"finish twice:");
-    say_finish(say_finish(begun(1, b"")));
-    say(b"\n");
+fn refuse_second_finish(rt: &impl Print) -> io::Result<()> {
+    say(rt, b"finish twice:")?;
+    let finished = say_finish(rt, begun(1, b""))?;
+    say_finish(rt, finished)?;
+    say(rt, b"\n")
 }
 
-fn refuse_ad(long: &[u8]) {
-    say(b"begin over 65,537 bytes of associated data:");
-    say_begin(fresh(), 1, long);
-    say(b"\n");
+fn refuse_ad(rt: &impl Print, long: &[u8]) -> io::Result<()> {
+    say(rt, b"begin over 65,537 bytes of associated data:")?;
+    say_begin(rt, fresh(), 1, long)?;
+    say(rt, b"\n")
 }
 
-fn refuse_text(long: &[u8]) {
-    say(b"feed 65,537 bytes at once:");
-    say_feed(begun(1, b""), long, &mut [0u8; 1]);
-    say(b"\n");
+fn refuse_text(rt: &impl Print, long: &[u8]) -> io::Result<()> {
+    say(rt, b"feed 65,537 bytes at once:")?;
+    say_feed(rt, begun(1, b""), long, &mut [0u8; 1])?;
+    say(rt, b"\n")
 }
 
-fn refuse_room() {
+fn refuse_room(rt: &impl Print) -> io::Result<()> {
     let mut out = [0xffu8; 15];
-    say(b"feed 16 bytes into an output of 15:");
-    say_feed(begun(1, b""), &[0u8; 16], &mut out);
-    write_line(b", the output still ", &out);
+    say(rt, b"feed 16 bytes into an output of 15:")?;
+    say_feed(rt, begun(1, b""), &[0u8; 16], &mut out)?;
+    write_line(rt, b", the output still ", &out)
 }
 
 fn mark() -> Mark {
@@ -145,67 +154,65 @@ fn begun(n: u64, ad: &[u8]) -> Channel {
 }
 
 // Begins a message and abandons it, so that the channel is ready for the next.
-fn try_number(c: Channel, n: u64) -> Channel {
-    let abandoned = abandon(say_begin(c, n, b""));
-    abandoned.channel
+fn try_number(rt: &impl Print, c: Channel, n: u64) -> io::Result<Channel> {
+    let abandoned = abandon(say_begin(rt, c, n, b"")?);
+    Ok(abandoned.channel)
 }
 
-fn feed_pieces(text: &[u8], ad: &[u8])
+fn feed_pieces(rt: &impl Print, text: &[u8], ad: &[u8]) -> io::Result<()>
     requires { 80 ≤ length text.now }
 {
-    say(b"in pieces of 1, 15, 16, 17, 31 and 0: ");
-    let at_32 = feed_first(begun(258, ad), text);
-    write_tag(feed_rest(at_32, text));
+    say(rt, b"in pieces of 1, 15, 16, 17, 31 and 0: ")?;
+    let at_32 = feed_first(rt, begun(258, ad), text)?;
+    let at_80 = feed_rest(rt, at_32, text)?;
+    write_tag(rt, at_80)
 }
 
-fn write_tag(c: Channel) {
+fn write_tag(rt: &impl Print, c: Channel) -> io::Result<()> {
     let finished = finish(c);
     let tag = finished.tag;
-    write_line(b"", &tag);
+    write_line(rt, b"", &tag)
 }
 
-fn feed_first(c: Channel, text: &[u8]) -> Channel
+fn feed_first(rt: &impl Print, c: Channel, text: &[u8]) -> io::Result<Channel>
     requires { 80 ≤ length text.now }
 {
-    let at_1 = feed_part(c, &text[0..1], &mut [0u8; 1]);
-    let at_16 = feed_part(at_1, &text[1..16], &mut [0u8; 15]);
-    feed_part(at_16, &text[16..32], &mut [0u8; 16])
+    let at_1 = feed_part(rt, c, &text[0..1], &mut [0u8; 1])?;
+    let at_16 = feed_part(rt, at_1, &text[1..16], &mut [0u8; 15])?;
+    feed_part(rt, at_16, &text[16..32], &mut [0u8; 16])
 }
 
-fn feed_rest(c: Channel, text: &[u8]) -> Channel
+fn feed_rest(rt: &impl Print, c: Channel, text: &[u8]) -> io::Result<Channel>
     requires { 80 ≤ length text.now }
 {
-    let at_49 = feed_part(c, &text[32..49], &mut [0u8; 17]);
-    let at_80 = feed_part(at_49, &text[49..80], &mut [0u8; 31]);
-    feed_part(at_80, b"", &mut [0u8; 0])
+    let at_49 = feed_part(rt, c, &text[32..49], &mut [0u8; 17])?;
+    let at_80 = feed_part(rt, at_49, &text[49..80], &mut [0u8; 31])?;
+    feed_part(rt, at_80, b"", &mut [0u8; 0])
 }
 
 // Feeds a piece, and writes what it was sealed to.
-fn feed_part(c: Channel, piece: &[u8], out: &mut [u8]) -> Channel {
+fn feed_part(rt: &impl Print, c: Channel, piece: &[u8], out: &mut [u8]) -> io::Result<Channel> {
     let fed = feed(c, piece, out);
-    write_hex(out);
-    fed.channel
+    write_hex(rt, out)?;
+    Ok(fed.channel)
 }
 
-fn say_begin(c: Channel, n: u64, ad: &[u8]) -> Channel {
-    say_step(begin(c, Number(n), ad))
+fn say_begin(rt: &impl Print, c: Channel, n: u64, ad: &[u8]) -> io::Result<Channel> {
+    say_step(rt, begin(c, Number(n), ad))
 }
 
-fn say_feed(c: Channel, piece: &[u8], out: &mut [u8]) {
+fn say_feed(rt: &impl Print, c: Channel, piece: &[u8], out: &mut [u8]) -> io::Result<()> {
     let fed = feed(c, piece, out);
-    let a = fed.answer;
-    say_answer(a);
+    say_answer(rt, fed.answer)
 }
 
-fn say_finish(c: Channel) -> Channel {
+fn say_finish(rt: &impl Print, c: Channel) -> io::Result<Channel> {
     let finished = finish(c);
-    let a = finished.answer;
-    say_answer(a);
-    finished.channel
+    say_answer(rt, finished.answer)?;
+    Ok(finished.channel)
 }
 
-fn say_step(s: Step) -> Channel {
-    let a = s.answer;
-    say_answer(a);
-    s.channel
+fn say_step(rt: &impl Print, s: Step) -> io::Result<Channel> {
+    say_answer(rt, s.answer)?;
+    Ok(s.channel)
 }

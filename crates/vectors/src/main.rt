@@ -6,33 +6,35 @@ ghost use Rattle.records.specs.Answers.{Wrote};
 ghost use Rattle.records.specs.Kept.{last_line};
 ghost use Rattle.records.specs.Remembered.{FieldBuffers};
 ghost use Rattle.records.specs.Input.{Answered, Ended};
+ghost use Rattle.std.specs.Io.{ReadsAtMost};
 ghost use Rattle.vector_lines.specs.Line.{answer_line};
 
-use libc::{STDERR_FILENO, STDIN_FILENO, STDOUT_FILENO};
 use records::answers::write_last;
 use records::machine::{Machine, ready};
+use std::io;
+use std::io::{ErrorKind, Read, Write};
+use std::process::ExitCode;
 use vector_chunks::serve_chunk;
 
-// One buffer takes the input, and another the answers. A program has no exit status: what failed is said on standard error,
-// so that lost output does not look like success.
-fn main() {
-    let mut chunk = io::large_buffer();
-    let mut out = io::large_buffer();
-    let end = answer_in(&mut out, &mut chunk);
+// One buffer takes the input, and another the answers. What failed is said on standard error, and by the status, so that lost
+// output does not look like success.
+fn main(rt: HostRuntime) -> ExitCode {
+    let mut chunk = [0u8; 65536];
+    let mut out = [0u8; 65536];
+    let end = answer_in(&mut rt.stdin(), &mut rt.stdout(), &mut out, &mut chunk);
     if end.failed {
-        say_cannot_write();
+        return failure(&rt, "vectors: cannot write");
     }
     if end.unread {
-        say_cannot_read();
+        return failure(&rt, "vectors: cannot read");
     }
+    ExitCode::SUCCESS
 }
 
-fn say_cannot_write() {
-    io::write_all(STDERR_FILENO, b"vectors: cannot write\n");
-}
-
-fn say_cannot_read() {
-    io::write_all(STDERR_FILENO, b"vectors: cannot read\n");
+// Where standard error cannot be written either, the status alone tells.
+fn failure(rt: &impl Eprint, words: &str) -> ExitCode {
+    let _ = rt.eprintln(words);
+    ExitCode::FAILURE
 }
 
 // How a run over the input ended: how many turns were left, how many bytes were handed out for what remained at the end of the
@@ -46,7 +48,7 @@ struct End {
 }
 
 // Each field has a buffer of 4,096 bytes, cleared at first.
-fn answer_in(out: &mut [u8], chunk: &mut [u8]) -> End
+fn answer_in<R: Read, W: Write>(from: &mut R, to: &mut W, out: &mut [u8], chunk: &mut [u8]) -> End
     requires { 8227 ≤ length out.old }
     ensures { Ended answer_line result.turns result.last result.failed result.unread out.new }
 {
@@ -54,13 +56,15 @@ fn answer_in(out: &mut [u8], chunk: &mut [u8]) -> End
     let mut iv = [0u8; 4096];
     let mut ad = [0u8; 4096];
     let mut text = [0u8; 4096];
-    answer_input(out, &mut key, &mut iv, &mut ad, &mut text, chunk)
+    answer_input(from, to, out, &mut key, &mut iv, &mut ad, &mut text, chunk)
 }
 
 // Answers each record of the input, and what remains at its end. A read that fails is no end of the input: what remains there is
 // not answered, since nobody knows how it goes on. It ends the program, as a write that fails does. A proved loop has to end: this
 // one counts down from more chunks than there can be.
-fn answer_input(
+fn answer_input<R: Read, W: Write>(
+    from: &mut R,
+    to: &mut W,
     out: &mut [u8],
     key: &mut [u8; 4096],
     iv: &mut [u8; 4096],
@@ -75,18 +79,16 @@ fn answer_input(
     let mut machine = ready();
     let mut turns = u64::MAX;
     while 0 < turns {
-        let got = libc::read(STDIN_FILENO, chunk);
-        if got < 0 {
+        let Ok(n) = read_chunk(from, chunk) else {
             return End {
                 turns,
                 last: 0,
                 failed: false,
                 unread: true,
             };
-        }
-        let n = io::count(got, chunk);
+        };
         if n == 0 {
-            let rest = answer_rest(out, machine);
+            let rest = answer_rest(to, out, machine);
             return End {
                 turns,
                 last: rest.count,
@@ -94,7 +96,7 @@ fn answer_input(
                 unread: false,
             };
         }
-        let progress = answer_chunk(out, key, iv, ad, text, machine, &chunk[..n]);
+        let progress = answer_chunk(to, out, key, iv, ad, text, machine, &chunk[..n]);
         let next = progress.machine;
         machine = next;
         turns -= 1;
@@ -115,6 +117,26 @@ fn answer_input(
     }
 }
 
+// Reads into the chunk, and says how many bytes: none at the end of the input. A read that a signal interrupts is made again.
+fn read_chunk<R: Read>(from: &mut R, chunk: &mut [u8]) -> io::Result<usize>
+    ensures { ReadsAtMost result chunk.new }
+{
+    for _ in 0..u64::MAX {
+        let got = from.read(chunk);
+        if !is_interrupted(&got) {
+            return got;
+        }
+    }
+    from.read(chunk)
+}
+
+fn is_interrupted(got: &io::Result<usize>) -> bool {
+    match got {
+        Ok(_) => false,
+        Err(e) => e.kind() == ErrorKind::Interrupted,
+    }
+}
+
 // How many bytes were handed out, and whether the write failed.
 #[derive(Clone, Copy)]
 struct Handed {
@@ -123,21 +145,21 @@ struct Handed {
 }
 
 // Answers what remains where the input ends.
-fn answer_rest(out: &mut [u8], machine: Machine) -> Handed
+fn answer_rest<W: Write>(to: &mut W, out: &mut [u8], machine: Machine) -> Handed
     requires { 4 ≤ length out.old }
     ensures { Wrote (last_line machine) out.old out.new result.count }
 {
     let count = write_last(out, machine);
-    hand_out(&out[..count])
+    hand_out(to, &out[..count])
 }
 
-// Hands bytes out to standard output.
-fn hand_out(bytes: &[u8]) -> Handed
+// Hands bytes out.
+fn hand_out<W: Write>(to: &mut W, bytes: &[u8]) -> Handed
     ensures { result.count ≡ length bytes.now }
 {
     Handed {
         count: bytes.len(),
-        failed: !io::write_all(STDOUT_FILENO, bytes),
+        failed: to.write_all(bytes).is_err(),
     }
 }
 
@@ -150,7 +172,8 @@ struct Progress {
 }
 
 // Answers each record that the chunk makes whole.
-fn answer_chunk(
+fn answer_chunk<W: Write>(
+    to: &mut W,
     out: &mut [u8],
     key: &mut [u8; 4096],
     iv: &mut [u8; 4096],
@@ -172,7 +195,7 @@ fn answer_chunk(
         machine = next;
         at = service.at;
         let count = service.count;
-        let handed = hand_out(&out[..count]);
+        let handed = hand_out(to, &out[..count]);
         if handed.failed {
             return Progress {
                 machine,
