@@ -245,14 +245,6 @@ pub record Scanning
   pub within : at ≤ length chunk → i ≤ length chunk
 
 module _ (m₀ : Machine) (key₀ iv₀ ad₀ text₀ chunk : List ℕ) (at : ℕ) where
-  pub scanning_none : Scanning m₀ key₀ iv₀ ad₀ text₀ chunk at m₀ key₀ iv₀ ad₀ text₀ at
-  scanning_none =
-      record {
-        going = λ state known. record { state = state; remembers = known; reads = refl; left = refl };
-        reached = omega arith;
-        within = λ h. h;
-      }
-
   module _ {m m' : Machine} {key iv ad text key' iv' ad' text' : List ℕ} (i : ℕ) (inside : i < length chunk)
       (took : Took m (get_or chunk i 0) key iv ad text m' key' iv' ad' text')
       (scanning : Scanning m₀ key₀ iv₀ ad₀ text₀ chunk at m key iv ad text i) where
