@@ -1,6 +1,6 @@
 -- The bytes that a read brought are no empty chunk; the laws of runs put them behind those before them. What remains is answered
 -- where the input ends alone.
-use Rattle.std.proofs.Common.{◌≡◌, ◌<◌, ◌∙◌, ap, arith, le_of_eq, length, length-take, refl, sym, take, take_all, true≢false}
+use Rattle.std.proofs.Common.{◌<◌, ◌∙◌, ap, arith, le_of_eq, length, length-take, refl, sym, take, take_all, true≢false}
 use Rattle.records.proofs.InputLaws.{carried_start, taken_then, carried_then, ended-whole, ended_before}
 use Rattle.vector_lines.specs.Line.{answer_line}
 use Rattle.vectors.proofs.answer_input.Goals as goal
