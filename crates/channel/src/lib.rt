@@ -88,6 +88,7 @@ pub fn feed(c: Channel, piece: &[u8], out: &mut [u8]) -> Fed
 }
 
 // Ends the message with its tag. A refusal leaves the channel as it is.
+#[tactic(auto, unfolding(channel_state::specs::State::end_number, channel_state::specs::State::end_of, channel_state::specs::State::tag_out))]
 pub fn finish(c: Channel) -> Finished
     ensures { FinishPromise c result }
 {
@@ -107,6 +108,7 @@ pub fn finish(c: Channel) -> Finished
 }
 
 // Ends the message without a tag; its number stays used. A refusal leaves the channel as it is.
+#[tactic(auto, unfolding(channel_state::specs::State::end_number, channel_state::specs::State::end_of))]
 pub fn abandon(c: Channel) -> Step
     ensures { AbandonPromise c result }
 {

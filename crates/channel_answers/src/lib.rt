@@ -11,6 +11,7 @@ use ledger::verdict;
 use rows::{ad_bad, key_bad, tag_bad, text_bad, too_short};
 
 // The answer to opening a channel: row 1, then row 3.
+#[tactic(auto, unfolding(channel_state::specs::State::opening_number))]
 pub fn opening_answer(key: usize, tag: usize) -> Answer
     ensures { number_of result ≡ opening_number key tag }
 {
@@ -24,6 +25,7 @@ pub fn opening_answer(key: usize, tag: usize) -> Answer
 }
 
 // The answer to a begin: 9, then row 4, then what the ledger says of the number.
+#[tactic(auto, unfolding(channel_state::specs::State::begin_number))]
 pub fn begin_answer(c: Channel, n: u64, ad: usize) -> Answer
     ensures { number_of result ≡ begin_number c n ad }
 {
@@ -38,6 +40,7 @@ pub fn begin_answer(c: Channel, n: u64, ad: usize) -> Answer
 }
 
 // The answer to a feed: 9, then row 5 over the text with this piece, then row 7.
+#[tactic(auto, unfolding(channel_state::specs::State::feed_number))]
 pub fn feed_answer(c: Channel, piece: usize, room: usize) -> Answer
     requires { piece < 2 ^ 63 }
     ensures { number_of result ≡ feed_number c piece room }
@@ -57,6 +60,7 @@ pub fn feed_answer(c: Channel, piece: usize, room: usize) -> Answer
 }
 
 // Dead, or with a message open.
+#[tactic(auto, unfolding(channel_state::specs::State::busy))]
 fn is_busy(c: Channel) -> bool
     ensures { result ≡ busy c }
 {
@@ -67,6 +71,7 @@ fn is_busy(c: Channel) -> bool
 }
 
 // Dead, or with no message open.
+#[tactic(auto, unfolding(channel_state::specs::State::idle))]
 pub fn is_idle(c: Channel) -> bool
     ensures { result ≡ idle c }
 {

@@ -78,6 +78,7 @@ pub fn new_channel(key: &[u8], mark: Mark, tag_len: usize) -> Channel
 }
 
 // The channel with a message begun under the number n, which is used from then on.
+#[tactic(auto, unfolding(crate::specs::State::begun_with))]
 pub fn begun(c: Channel, n: u64, ad: &[u8]) -> Channel
     requires { length ad.now < 2 ^ 32 }
     ensures { result ≡ begun_with c n ad.now }
@@ -93,6 +94,7 @@ pub fn begun(c: Channel, n: u64, ad: &[u8]) -> Channel
 }
 
 // The ciphertext of a piece of the open message, written to the front of `out`.
+#[tactic(auto, unfolding(crate::specs::State::piece_of))]
 pub fn crypt_piece(out: &mut [u8], c: Channel, piece: &[u8])
     requires { length piece.now ≤ length out.old }
     ensures { out.new ≡ piece_of c piece.now ++ drop (length piece.now) out.old }
@@ -145,6 +147,7 @@ fn rounds_of(c: Channel) -> usize
 }
 
 // The tag of the open message, zeros past the tag's length.
+#[tactic(auto, unfolding(crate::specs::State::message_tag))]
 pub fn message_tag(c: Channel) -> [u8; 16]
     ensures { result ≡ sixteen (take c.tag (message_tag c)) }
 {
