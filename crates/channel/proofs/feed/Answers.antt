@@ -1,5 +1,5 @@
 -- `channel::feed` keeps its promise, refused or done. Past the test the answer is 0, so the piece fits the total and the room.
-use Rattle.std.proofs.Common.{◌∙◌, ◌+◌, ◌^◌, ◌<◌, ◌≤◌, sym, ap, not, arith, length, take, length-take}
+use Rattle.std.proofs.Common.{◌∙◌, sym, ap, not, arith, length, take, length-take}
 use Rattle.std.proofs.Math.Seq.{take_at}
 use Rattle.answer.proofs.DoneLaws.{was_refused, was_done, when_refused, when_done}
 use Rattle.channel_state.specs.State.{with_message, message_with, piece_of, feed_number, feed_of, feed_out}
