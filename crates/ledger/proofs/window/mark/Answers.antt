@@ -25,9 +25,9 @@ module _ (top f n : ℕ) (below : n < 2 ^ 64) where
       ∙ sym (ledger_halves top f (bit_or n (2 ^ d)) (or_lt 64 n (2 ^ d) below (pow-lt small)))
       ∙ ap (ledger_of top) (sym (reached (f * 2 ^ 64 + n) d (omega arith) ∙ or_near 64 f n (2 ^ d) below (pow-lt small)))
 
-  in-far : (k : ℕ) → k < 64
+  in_far : (k : ℕ) → k < 64
       → record { high = top; near = n; far = bit_or f (1 * 2 ^ k % 2 ^ 64) } ≡ ledger_of top (with_mark (f * 2 ^ 64 + n) (k + 64))
-  in-far k small =
+  in_far k small =
       ap (λ (b : ℕ). record { high = top; near = n; far = bit_or f b }) (bit k small)
       ∙ sym (ledger_halves top (bit_or f (2 ^ k)) n below)
       ∙ ap (ledger_of top)
@@ -46,7 +46,7 @@ returns-then-d-lt-REACH c =
     let l = c.args.l in
     let d = c.args.d in
     let place : d - 64 + 64 ≡ d = omega arith in
-    in-far l.high l.far l.near (omega arith) (d - 64) (omega arith)
+    in_far l.high l.far l.near (omega arith) (d - 64) (omega arith)
     ∙ ap (λ (k : ℕ). ledger_of l.high (with_mark (window_of l) k)) place
 
 pub returns : goal.returns

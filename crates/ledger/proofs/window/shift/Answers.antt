@@ -15,16 +15,16 @@ unfolding shifted_by
 kept w k below = ap (λ (b : Bool). cond b (w * 2 ^ k % 2 ^ reach) 0) (lt-ltb k reach below)
 
 module _ (top f n : ℕ) where
-  by-many : (k : ℕ) → k < 64
+  by_many : (k : ℕ) → k < 64
       → record { high = top; near = 0; far = n * 2 ^ k % 2 ^ 64 } ≡ ledger_of top (shifted_by (f * 2 ^ 64 + n) (k + 64))
-  by-many k small =
+  by_many k small =
       sym (ap (ledger_of top) (kept (f * 2 ^ 64 + n) (k + 64) (omega arith) ∙ shift_across 64 k f n)
       ∙ ledger_halves top (n * 2 ^ k % 2 ^ 64) 0 (pow_pos 64))
 
-  by-few : (j k : ℕ) → j + k ≡ 64 → n < 2 ^ 64
+  by_few : (j k : ℕ) → j + k ≡ 64 → n < 2 ^ 64
       → record { high = top; near = n * 2 ^ k % 2 ^ 64; far = bit_or (f * 2 ^ k % 2 ^ 64) (n / 2 ^ j) }
       ≡ ledger_of top (shifted_by (f * 2 ^ 64 + n) k)
-  by-few j k width below =
+  by_few j k width below =
       sym (ap (ledger_of top) (kept (f * 2 ^ 64 + n) k (omega arith) ∙ halves)
       ∙ ledger_halves top (bit_or (f * 2 ^ k % 2 ^ 64) (n / 2 ^ j)) (n * 2 ^ k % 2 ^ 64) (mod-lt (n * 2 ^ k) (pow_pos 64)))
     where
@@ -50,7 +50,7 @@ returns-then-k-ge64 c =
     let l = c.args.l in
     let k = c.args.k in
     let total : k - 64 + 64 ≡ k = omega arith in
-    by-many l.high l.far l.near (k - 64) (omega arith)
+    by_many l.high l.far l.near (k - 64) (omega arith)
     ∙ ap (λ (i : ℕ). ledger_of l.high (shifted_by (window_of l) i)) total
 
 pub returns : goal.returns
@@ -58,4 +58,4 @@ unfolding window_of
 returns c =
     let l = c.args.l in
     let k = c.args.k in
-    by-few l.high l.far l.near (64 - k) k (omega arith) (omega arith)
+    by_few l.high l.far l.near (64 - k) k (omega arith) (omega arith)
