@@ -20,8 +20,8 @@
  *
  *   - Memory: up to 24,576 bytes of code and constants, and none that is written to. No call allocates, keeps a pointer, or has state
  *     of its own.
- *   - Stack: each call says below how much it takes at most, on either host. A loader that first looks for memcpy when it is called
- *     takes some of its own.
+ *   - Stack: each call says below how much it takes at most, as measured on x86-64. A loader that first looks for memcpy when it is
+ *     called takes some of its own.
  *   - Imports: memcpy and memset, and nothing else.
  *   - Time: no call is constant in time. The cipher's substitution is a table indexed by secret bytes, and whoever shares a cache
  *     with the caller may learn of the key. No promise is made of the time that a call takes, nor of what it leaves in memory that

@@ -1,0 +1,24 @@
+-- `ewplander_channel_open` meets its contract: it is `told::opened`, whose channel is stored where one is lent.
+use mathlib.Core.Path.{refl}
+use mathlib.Core.Bool.{false}
+use mir.Syntax.{w64}
+use base.Logic.{id⊢}
+use denote.Builtin.{Array, u8}
+use Rattle.told.specs.contracts.opened as g
+use Rattle.told.proofs.opened.Symbol as g-def
+use Rattle.told.proofs.opened.Met as g-thm
+use Rattle.lent.proofs.LentLaws.{lent_proved, lent_in, slice_in, word}
+use Rattle.ewplander.proofs.ChannelLent.{channel}
+use Rattle.ewplander.specs.contracts.ewplander_channel_open as f
+use Rattle.ewplander.specs.contracts.ewplander_channel_open.Key as key
+use Rattle.ewplander.proofs.ewplander_channel_open.Statement as stated
+use Rattle.ewplander.proofs.ewplander_channel_open.Code as code
+
+pub ewplander_channel_open_spec : {M : Type 1} → stated.statement M
+ewplander_channel_open_spec 𝓤 𝓛 𝓜 𝓡 wired =
+    lent_proved 𝓛 𝓜 𝓡 false channel g.signature (λ κs a. (f.clauses 𝓛 𝓜.mem 𝓡.returns κs a).ensures tt)
+    (λ κs a. (g.clauses 𝓛 𝓜.mem 𝓡.returns κs a).ensures tt) 𝓡.env code.function g-def.name
+    (λ κs x a r ws. id⊢ 𝓤 _) (λ κs. (slice_in u8, (lent_in (Array u8 tt 4), (word w64, tt))))
+    (λ κs a t. record { body_is = refl; fits = λ bs b o u. (((tt, tt), t), tt, refl, tt, refl) })
+    key.name (code.unfolded 𝓤 𝓛.H 𝓜 𝓡 wired) (𝓡.env g-def.name) refl
+    (g-thm.met 𝓤 𝓛 𝓜 𝓡 (code.calls-told::opened 𝓡.env wired))
