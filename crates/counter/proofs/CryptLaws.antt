@@ -1,6 +1,7 @@
 -- A text crypted into a buffer from its front, a block at a time: what stands in front of the place reached, and what is still to
 -- come behind it, make the whole. A short last block is no case of its own, since a xor is as long as the shorter list.
-use Rattle.std.proofs.Common.{◌≡◌, ℕ, ◌+◌, ◌-◌, ◌<◌, ◌≤◌, min, List, [], ◌++◌, length, take, drop, sym, refl, ap, ◌∙◌, ap₂, append_assoc, append-nil, arith, length-drop, take-append-drop, drop_of_length-le, take_all, drop-drop}
+use Rattle.std.proofs.Common.{◌≡◌, ℕ, ◌+◌, ◌-◌, ◌<◌, ◌≤◌, min, List, [], ◌++◌, length, take, drop, sym, refl, ap, ◌∙◌, ap₂}
+use Rattle.std.proofs.Common.{append_assoc, append-nil, arith, length-drop, take-append-drop, drop_of_length-le, take_all, drop-drop}
 use native.Mathlib.Decide.{dec_le}
 use lib.Seq.{paste, take-paste, drop-paste, length-paste, drop-length}
 use Rattle.octets.specs.Bytes.{xored}

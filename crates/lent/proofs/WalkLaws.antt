@@ -34,7 +34,8 @@ use denote.Struct.Struct.{Plains, layout}
 use denote.Struct.Declared.{Declared, fields, shape, row}
 use denote.Struct.Laws as LL
 use denote.Triple.Call.{calls_from}
-use Rattle.lent.proofs.LocalsLaws.{Locals, at, there, all_there, and_T, FitParams, Blocks, placed, copies, held, all_held, hold, holds, held_there, held_elsewhere, slots, sees, sees_in, sets, sees_all, all_allocated, all_stored, all_freed}
+use Rattle.lent.proofs.LocalsLaws.{Locals, at, there, all_there, and_T, FitParams, Blocks, placed, copies, held, all_held, hold, holds}
+use Rattle.lent.proofs.LocalsLaws.{held_there, held_elsewhere, slots, sees, sees_in, sets, sees_all, all_allocated, all_stored, all_freed}
 use Rattle.lent.proofs.AgainLaws.{Goes, values, again_code, again_at, again_free, again_past, again_holds, AgainFits, lent_again}
 
 -- a struct that is lent, and the struct that a callee answers with: a number, and the struct that is to be stored
