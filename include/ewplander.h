@@ -18,11 +18,11 @@
  *
  * What the library takes, on x86-64 and on Arm:
  *
- *   - Memory: up to 24,576 bytes of code and constants, and none that is written to. No call allocates, keeps a pointer, or has state
+ *   - Memory: up to 20,480 bytes of code and constants, and none that is written to. No call allocates, keeps a pointer, or has state
  *     of its own.
  *   - Stack: each call says below how much it takes at most, as measured on x86-64. A loader that first looks for memcpy when it is
  *     called takes some of its own.
- *   - Imports: memcpy and memset, and nothing else.
+ *   - Imports: memcpy, and nothing else.
  *   - Time: no call is constant in time. The cipher's substitution is a table indexed by secret bytes, and whoever shares a cache
  *     with the caller may learn of the key. No promise is made of the time that a call takes, nor of what it leaves in memory that
  *     it is done with.
@@ -239,7 +239,7 @@ uint32_t ewplander_channel_begin(ewplander_channel *channel, uint64_t number, co
  * Answers: DONE, WRONG_PHASE (no message is open, or the channel is dead), TEXT_LONG, OUTPUT_SHORT.
  * A refusal leaves the channel, its message open, and every byte of `out`.
  * However a text is cut, the pieces written make the ciphertext that ewplander_seal() gives for the whole.
- * Stack: up to 3,072 bytes.
+ * Stack: up to 2,048 bytes.
  */
 uint32_t ewplander_channel_feed(ewplander_channel *channel, const uint8_t *piece, size_t piece_len, uint8_t *out, size_t out_len,
                                 size_t *count);

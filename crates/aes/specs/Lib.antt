@@ -1,1 +1,2 @@
 pub mod Cipher
+pub mod Under

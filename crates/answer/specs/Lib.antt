@@ -1,1 +1,3 @@
 pub mod Number
+pub mod Sentence
+pub mod Values

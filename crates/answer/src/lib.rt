@@ -1,68 +1,78 @@
-// The answers of the public calls.
+// The answers of the public calls: what a call gives when all is done, or why it refuses.
 #![tactic(auto)]
 
-ghost use Rattle.std.specs.Prelude.{◌≡◌, eqb};
-ghost use Rattle.answer.specs.Number.{number_of};
+ghost use Rattle.std.specs.Prelude.{◌≡◌, Some};
+ghost use Rattle.answer.specs.Number.{refusal_number, number_of};
+ghost use Rattle.answer.specs.Sentence.{sentence};
 
-// What a call answers. Rules R2.0 (done) to R2.11 (row 11, used) number them, in this order.
-#[derive(Clone, Copy)]
-pub enum Answer {
-    Done,
+use std::error::Error;
+use std::fmt;
+
+// Why a call refuses. Rules R2.1 (row 1) to R2.11 (row 11) number the refusals.
+#[derive(Clone, Copy, Debug, PartialEq, Eq)]
+pub enum Refusal {
     // The key does not have 16 or 32 bytes.
-    KeyLength,
+    KeyLength = 1,
     // The IV does not have 1 to 128 bytes.
-    IvLength,
+    IvLength = 2,
     // The tag is not to have 12 to 16 bytes.
-    TagLength,
+    TagLength = 3,
     // The associated data has more than 65,536 bytes.
-    AdLong,
+    AdLong = 4,
     // The text has more than 65,536 bytes.
-    TextLong,
+    TextLong = 5,
     // The sealed bytes are fewer than the tag's.
-    SealedShort,
+    SealedShort = 6,
     // The output is shorter than what is to be written.
-    OutputShort,
+    OutputShort = 7,
     // The tag is not the one that these bytes have.
-    TagDiffers,
+    TagDiffers = 8,
     // The channel is in another phase, or dead.
-    WrongPhase,
+    WrongPhase = 9,
     // The number lies too far below the highest accepted.
-    Stale,
+    Stale = 10,
     // The number was accepted before.
-    Used,
+    Used = 11,
 }
 
-// What a call that writes answers: with `Done` how many bytes it wrote, with any other answer 0.
-#[derive(Clone, Copy)]
-pub struct Outcome {
-    pub answer: Answer,
-    pub count: usize,
-}
+// The refusal's number, that of its row.
+impl From<Refusal> for u8 {
+    ghost from_gives = { λ refusal number. number ≡ refusal_number refusal };
 
-// The answer's number, by rules R2.0 to R2.11.
-pub fn number(a: Answer) -> u8
-    ensures { result ≡ number_of a }
-{
-    match a {
-        Answer::Done => 0,
-        Answer::KeyLength => 1,
-        Answer::IvLength => 2,
-        Answer::TagLength => 3,
-        Answer::AdLong => 4,
-        Answer::TextLong => 5,
-        Answer::SealedShort => 6,
-        Answer::OutputShort => 7,
-        Answer::TagDiffers => 8,
-        Answer::WrongPhase => 9,
-        Answer::Stale => 10,
-        Answer::Used => 11,
+    fn from(refusal: Refusal) -> u8 {
+        refusal as u8
     }
 }
 
-// Whether the answer is that all was done.
-pub fn is_done(a: Answer) -> bool
-    ensures { result ≡ eqb (number_of a) 0 }
+// What a reader is told of the refusal.
+impl fmt::Display for Refusal {
+    ghost output = { λ refusal. Some (sentence refusal) };
+
+    fn fmt<W: fmt::Write>(&self, f: &mut fmt::Formatter<W>) -> fmt::Result {
+        match self {
+            Refusal::KeyLength => f.write_str("the key has neither 16 nor 32 bytes"),
+            Refusal::IvLength => f.write_str("the IV does not have 1 to 128 bytes"),
+            Refusal::TagLength => f.write_str("the tag is not to have 12 to 16 bytes"),
+            Refusal::AdLong => f.write_str("the associated data has more than 65,536 bytes"),
+            Refusal::TextLong => f.write_str("the text has more than 65,536 bytes"),
+            Refusal::SealedShort => f.write_str("the sealed bytes are fewer than the tag's"),
+            Refusal::OutputShort => f.write_str("the output is shorter than what is to be written"),
+            Refusal::TagDiffers => f.write_str("the tag is not the one that these bytes have"),
+            Refusal::WrongPhase => f.write_str("the channel is in another phase, or dead"),
+            Refusal::Stale => f.write_str("the number lies too far below the highest accepted"),
+            Refusal::Used => f.write_str("the number was accepted before"),
+        }
+    }
+}
+
+impl Error for Refusal {}
+
+// The answer's number: 0 where all is done (rule R2.0), and else the refusal's.
+pub fn number<T: Copy>(answer: Result<T, Refusal>) -> u8
+    ensures { result ≡ number_of answer }
 {
-    let n = number(a);
-    n == 0
+    match answer {
+        Ok(_) => 0,
+        Err(refusal) => u8::from(refusal),
+    }
 }

@@ -1,55 +1,43 @@
 // The cipher over many blocks, exported for bench/ to time.
 #![tactic(auto)]
 
-ghost use Rattle.std.specs.Prelude.{◌≡◌, ◌+◌, ◌≤◌, length, take, drop};
-ghost use Rattle.sbox.specs.Substitution.{Substitutes};
-ghost use Rattle.aes.specs.Cipher.{enciphered_by};
+ghost use Rattle.std.specs.Prelude.{◌≡◌};
+ghost use Rattle.aes.specs.Under.{enciphered_under};
 ghost use Rattle.bench_cipher.specs.Blocks.{each_enciphered, blocks_under};
 
-use aes::encipher_by;
-use octets::put_bytes;
+use aes::Cipher;
+use sbox::Table;
 use schedule::expand;
 
 // Enciphers each whole block of `blocks` where it stands. A key of fewer than 16 or more than 32 bytes leaves them as they are.
+#[tactic(auto, unfolding(crate::specs::Blocks::blocks_under, aes::specs::Cipher::enciphered))]
 #[unsafe(no_mangle)]
 pub extern "C" fn bench_encipher(key: &[u8], blocks: &mut [u8])
     ensures { blocks.new ≡ blocks_under key.now blocks.old }
 {
-    if key.len() < 16 {
+    if !(16..=32).contains(&key.len()) {
         return;
     }
-    if 32 < key.len() {
-        return;
-    }
-    let table = sbox::table();
+    let table = Table::new();
     let words = expand(&table, key);
-    encipher_all(&table, &words, key.len() / 4 + 6, blocks);
+    let cipher = Cipher {
+        table: &table,
+        words: &words,
+        rounds: key.len() / 4 + 6,
+    };
+    encipher_all(cipher, blocks);
 }
 
 // The same, by the round keys.
-fn encipher_all(table: &[u8; 256], words: &[u32; 60], rounds: usize, blocks: &mut [u8])
-    requires substitutes { Substitutes table.now }
-    requires rounds_bound { rounds ≤ 14 }
-    ensures { blocks.new ≡ each_enciphered (enciphered_by words.now rounds) blocks.old }
+#[tactic(auto, using(crate::proofs::EachLaws::enciphering_more, crate::proofs::EachLaws::enciphering_all))]
+fn encipher_all(cipher: Cipher, blocks: &mut [u8])
+    ensures { blocks.new ≡ each_enciphered (enciphered_under cipher.entry) blocks.old }
 {
-    let mut at = 0;
-    while 16 <= blocks.len() - at {
-        let block = encipher_by(table, words, rounds, block_at(blocks, at));
-        put_bytes(blocks, at, block, 16);
-        at += 16;
+    // By index: after a loop over `as_chunks_mut` the proof knows how long `blocks` is, and nothing of what it holds.
+    for k in 0..blocks.len() / 16 {
+        let at = 16 * k;
+        let mut block = [0; 16];
+        block.copy_from_slice(&blocks[at..at + 16]);
+        blocks[at..at + 16].copy_from_slice(&cipher.encipher(block));
     }
-}
-
-// The sixteen bytes from index `at` on.
-fn block_at(blocks: &[u8], at: usize) -> [u8; 16]
-    requires { at + 16 ≤ length blocks.now }
-    ensures { result ≡ take 16 (drop at blocks.now) }
-{
-    let mut block = [0u8; 16];
-    let mut i = 0;
-    while i < 16 {
-        block[i] = blocks[at + i];
-        i += 1;
-    }
-    block
 }

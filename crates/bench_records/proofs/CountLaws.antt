@@ -1,7 +1,7 @@
 -- Scan after scan, the line feeds behind the reader are four for each record counted, and one for each ended line of the record
 -- at hand.
-use mathlib.Core.Path.{◌≡◌, refl, ap, ◌∙◌}
-use mathlib.Core.Bool.{Bool, true, false, cond}
+use mathlib.Core.Path.{◌≡◌, refl, sym, ap, ◌∙◌}
+use mathlib.Core.Bool.{Bool, true, false, false≢true, cond}
 use mathlib.Core.List.{List, [], ◌∷◌}
 use Prim.Native.Nat.{ℕ, ◌+◌, ◌*◌, ◌≤◌, ◌<◌}
 use native.Mathlib.Omega.{arith}
@@ -9,12 +9,11 @@ use lib.Dec.{eqb}
 use lib.ListN.{length, drop, drop_of_length-le}
 use Rattle.records.specs.Records.{line_feed}
 use Rattle.records.specs.Reading.{State, in_key, in_iv, in_ad, in_text, Next, more, whole, step, start, scanned, left_of}
-use Rattle.records.specs.Kept.{fresh_machine}
-use Rattle.records.specs.Remembered.{FieldBuffers, Remembers, Scanned}
-use Rattle.records.specs.declared.machine.Machine.{Machine}
-use Rattle.records.specs.declared.machine.Stop.{Stop}
+use Rattle.records.specs.Kept.{fresh_reader, at_start, is_whole}
+use Rattle.records.specs.Remembered.{Remembers, Scanned}
+use Rattle.records.specs.declared.reader.Reader.{Reader}
 use Rattle.records.proofs.ChunkLaws.{scan_more, left-more, scan_whole, left-whole}
-use Rattle.records.proofs.ScanLaws.{open_lines, remembers-start}
+use Rattle.records.proofs.ScanLaws.{open_lines, whole_lines, fresh_room, remembers-start}
 use Rattle.bench_records.specs.Count.{line_feeds, whole_records}
 
 -- how many lines of a record are ended
@@ -62,30 +61,35 @@ feeds_kept state (b ∷ s) = go (λ next. feeds_kept next s) (step state b) refl
     go rest (whole k i a t) e =
         rw (scan_whole state b s k i a t e, left-whole state b s k i a t e) (omega (arith, step-feeds state b ∙ ap ended_of e))
 
-pub record Counting (m : Machine) (key iv ad text input : List ℕ) (count at : ℕ) : Type 0 where
+pub record Counting (r : Reader) (input : List ℕ) (count at : ℕ) : Type 0 where
   pub state : State
-  pub remembers : Remembers m key iv ad text (more state)
+  pub remembers : Remembers r (more state)
   pub feeds : count * 4 + (ended_in state + line_feeds (drop at input)) ≡ line_feeds input
   pub fewer : count ≤ at
   pub within : at ≤ length input
 
-pub counting_none : (key iv ad text input : List ℕ) → FieldBuffers key iv ad text → Counting fresh_machine key iv ad text input 0 0
-counting_none key iv ad text input room =
-    record { state = start; remembers = remembers-start key iv ad text room; feeds = omega arith; fewer = omega arith; within = omega arith }
+pub counting_none : (input : List ℕ) → Counting fresh_reader input 0 0
+counting_none input =
+    record {
+      state = start;
+      remembers = remembers-start fresh_reader fresh_room;
+      feeds = omega arith;
+      fewer = omega arith;
+      within = omega arith;
+    }
 
-module _ {m : Machine} {key iv ad text input : List ℕ} {count at : ℕ} {r : Stop} {key' iv' ad' text' : List ℕ}
-    (scan : Scanned m key iv ad text input at r key' iv' ad' text') (counting : Counting m key iv ad text input count at)
-    (inside : at < length input) where
-  scanned-feeds : count * 4 + (ended_of (scanned counting.state (drop at input)) + line_feeds (drop r.at input)) ≡ line_feeds input
+module _ {r r' : Reader} {input : List ℕ} {count at end : ℕ} (scan : Scanned r input at r' end)
+    (counting : Counting r input count at) (inside : at < length input) where
+  scanned-feeds : count * 4 + (ended_of (scanned counting.state (drop at input)) + line_feeds (drop end input)) ≡ line_feeds input
   scanned-feeds =
       rw (scan.left counting.state counting.remembers)
       (omega (arith, feeds_kept counting.state (drop at input), counting.feeds))
 
   -- no record is whole yet
-  pub counting_on : (r.machine.lines ≡ 4 → ⊥) → Counting r.machine key' iv' ad' text' input count r.at
+  pub counting_on : is_whole r'.stage ≡ false → Counting r' input count end
   counting_on few = go (scanned counting.state (drop at input)) refl
     where
-      go : (n : Next) → scanned counting.state (drop at input) ≡ n → Counting r.machine key' iv' ad' text' input count r.at
+      go : (n : Next) → scanned counting.state (drop at input) ≡ n → Counting r' input count end
       go (more next) e =
           record {
             state = next;
@@ -94,30 +98,29 @@ module _ {m : Machine} {key iv ad text input : List ℕ} {count at : ℕ} {r : S
             fewer = omega (arith, counting.fewer, scan.reached);
             within = scan.within counting.within;
           }
-      go (whole k i a t) e = absurd (few (rw e at (scan.remembers counting.state counting.remembers)).reads.0.ended)
+      go (whole k i a t) e =
+          absurd (false≢true (sym few ∙ whole_lines (rw e at (scan.remembers counting.state counting.remembers))))
 
   -- a record is whole
-  pub counting_whole : r.machine.lines ≡ 4 → Counting fresh_machine key' iv' ad' text' input (count + 1) r.at
+  pub counting_whole : is_whole r'.stage ≡ true → Counting (at_start r') input (count + 1) end
   counting_whole four = go (scanned counting.state (drop at input)) refl
     where
-      go : (n : Next) → scanned counting.state (drop at input) ≡ n
-          → Counting fresh_machine key' iv' ad' text' input (count + 1) r.at
+      go : (n : Next) → scanned counting.state (drop at input) ≡ n → Counting (at_start r') input (count + 1) end
       go (more next) e =
-          let few : r.machine.lines < 4 = open_lines next (rw e at (scan.remembers counting.state counting.remembers)) in
-          absurd (omega arith)
+          absurd (false≢true (sym (open_lines next (rw e at (scan.remembers counting.state counting.remembers))) ∙ four))
       go (whole k i a t) e =
-          let feeds : count * 4 + (4 + line_feeds (drop r.at input)) ≡ line_feeds input = rw e at scanned-feeds in
+          let feeds : count * 4 + (4 + line_feeds (drop end input)) ≡ line_feeds input = rw e at scanned-feeds in
           record {
             state = start;
-            remembers = remembers-start key' iv' ad' text' (scan.remembers counting.state counting.remembers).room;
+            remembers = remembers-start r' (scan.remembers counting.state counting.remembers).room;
             feeds = omega (arith, feeds);
             fewer = omega (arith, counting.fewer, scan.further inside);
             within = scan.within counting.within;
           }
 
 -- at the end of the input
-pub counted : {m : Machine} {key iv ad text input : List ℕ} {count at : ℕ} → length input ≤ at
-    → Counting m key iv ad text input count at → count ≡ whole_records input
+pub counted : {r : Reader} {input : List ℕ} {count at : ℕ} → length input ≤ at → Counting r input count at
+    → count ≡ whole_records input
 unfolding line_feeds
 counted {input = input} {count = count} {at = at} done counting =
     let feeds : count * 4 + (ended_in counting.state + 0) ≡ line_feeds input =

@@ -1,14 +1,13 @@
-// The record machine without a sealer behind it, exported for bench/ to time.
+// The record reader without a sealer behind it, exported for bench/ to time.
 #![tactic(auto)]
 
 ghost use Rattle.std.specs.Prelude.{◌≡◌};
-ghost use Rattle.records.specs.Remembered.{FieldBuffers};
 ghost use Rattle.bench_records.specs.Count.{whole_records};
 
-use records::machine::{ready, scan};
+use records::reader::Reader;
 
-// How many whole records the input has. The buffers are lent, since stores to an array that nobody reads would be left out; that
-// they are long enough their types say already.
+// How many whole records the input has. What the fields' buffers hold at its end is copied to lent ones, since stores to an array
+// that nobody reads would be left out. A scan says how far it went, so that the loop is no `for`.
 #[unsafe(no_mangle)]
 pub extern "C" fn bench_records(
     key: &mut [u8; 4096],
@@ -17,22 +16,21 @@ pub extern "C" fn bench_records(
     text: &mut [u8; 4096],
     input: &[u8],
 ) -> usize
-    requires { FieldBuffers key.old iv.old ad.old text.old }
     ensures { result ≡ whole_records input.now }
 {
-    let mut machine = ready();
+    let mut reader = Reader::new();
     let mut count = 0;
     let mut at = 0;
     while at < input.len() {
-        let stop = scan(key, iv, ad, text, machine, input, at);
-        let next = stop.machine;
-        machine = next;
-        at = stop.at;
-        let lines = next.lines;
-        if lines == 4 {
-            machine = ready();
+        at = reader.scan(input, at);
+        if reader.is_whole() {
+            reader.restart();
             count += 1;
         }
     }
+    *key = reader.key.bytes;
+    *iv = reader.iv.bytes;
+    *ad = reader.ad.bytes;
+    *text = reader.text.bytes;
     count
 }

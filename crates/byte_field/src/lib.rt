@@ -5,6 +5,7 @@ ghost use Rattle.std.specs.Prelude.{◌≡◌};
 ghost use Rattle.byte_field.specs.Field.{doubled};
 
 // Twice b (FIPS 197: XTIMES).
+#[tactic(auto, unfolding(crate::specs::Field::doubled))]
 pub fn double(b: u8) -> u8
     ensures { result ≡ doubled b }
 {

@@ -1,57 +1,36 @@
-// The lines of the cases' program, written piece by piece.
+// What the lines of the cases' program are made of.
 #![tactic(auto)]
 
-ghost use Rattle.std.specs.Prelude.{◌≡◌, take};
+ghost use Rattle.std.specs.Prelude.{◌≡◌, take, Some};
+ghost use Rattle.hexadecimal.specs.Hex.{encoded};
 
-use answer::{Answer, number};
-use hexadecimal::digits::hex_digit;
-use std::io;
+use answer::{Refusal, number};
+use std::{fmt, io};
 
-pub fn say(rt: &impl Print, words: &[u8]) -> io::Result<()> {
-    rt.write_all(words)
+// Bytes, printed as hex.
+#[derive(Clone, Copy)]
+pub struct Hex<'a>(pub &'a [u8]);
+
+impl fmt::Display for Hex<'_> {
+    ghost output = { λ hex. Some (encoded hex.0.now) };
+
+    fn fmt<W: fmt::Write>(&self, f: &mut fmt::Formatter<W>) -> fmt::Result {
+        for b in self.0 {
+            let byte = *b;
+            write!(f, "{byte:02x}")?;
+        }
+        Ok(())
+    }
 }
 
-// A call's answer, by its number (rules R2.0 to R2.11).
-pub fn say_answer(rt: &impl Print, a: Answer) -> io::Result<()> {
-    print!(rt; " {}", number(a))
-}
-
-pub fn say_count(rt: &impl Print, n: usize) -> io::Result<()> {
-    print!(rt; ", bytes {n}")
-}
-
-pub fn write_line(rt: &impl Print, name: &[u8], bytes: &[u8]) -> io::Result<()> {
-    say(rt, name)?;
-    write_hex(rt, bytes)?;
-    say(rt, b"\n")
+// Prints what a call answered, by its number (rules R2.0 to R2.11).
+pub fn print_answer<T: Copy>(rt: &impl Print, answer: Result<T, Refusal>) -> io::Result<()> {
+    print!(rt; " {}", number(answer))
 }
 
 // The first n bytes, or all where there are fewer.
 pub fn front(bytes: &[u8], n: usize) -> &[u8]
     ensures { result.now ≡ take n bytes.now }
 {
-    if n < bytes.len() {
-        return &bytes[..n];
-    }
-    bytes
-}
-
-// The last sixteen bytes, behind their name.
-pub fn write_last(rt: &impl Print, name: &[u8], bytes: &[u8]) -> io::Result<()> {
-    let n = bytes.len();
-    if n >= 16 {
-        write_line(rt, name, &bytes[n - 16..])?;
-    }
-    Ok(())
-}
-
-pub fn write_hex(rt: &impl Print, bytes: &[u8]) -> io::Result<()> {
-    for b in bytes {
-        rt.write_all(&pair_of(*b))?;
-    }
-    Ok(())
-}
-
-fn pair_of(b: u8) -> [u8; 2] {
-    [hex_digit(b / 16), hex_digit(b % 16)]
+    &bytes[..bytes.len().min(n)]
 }

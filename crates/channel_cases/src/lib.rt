@@ -3,144 +3,132 @@
 // Zeros enough for every length are lent by the program.
 #![tactic(auto)]
 
-ghost use Rattle.std.specs.Prelude.{◌≤◌, length};
-
-use case_lines::{front, say, say_answer, write_hex, write_line};
+use case_lines::{Hex, front, print_answer};
 use channel::{Step, abandon, begin, feed, finish};
 use channel_state::{Channel, Mark, Number};
 use std::io;
 
+const MARK: Mark = Mark(*b"\x0a\x0b\x0c\x0d");
+
 // Numbers around the oldest one that a ledger takes.
 pub fn numbers(rt: &impl Print) -> io::Result<()> {
-    numbers_from_200(rt)?;
-    numbers_from_the_highest(rt)?;
-    say(rt, b"\na fresh channel begins 0:")?;
-    try_number(rt, fresh(), 0)?;
-    say(rt, b"\n")
+    rt.print("begin 200, 72, 73, 73 again:")?;
+    try_numbers(rt, fresh(), &[200, 72, 73, 73])?;
+    rt.print("after 2^64-1, begin 2^64-129 and 2^64-128:")?;
+    let after_the_highest = abandon(begun(u64::MAX, b"")).channel;
+    try_numbers(rt, after_the_highest, &[u64::MAX - 128, u64::MAX - 127])?;
+    rt.print("a fresh channel begins 0:")?;
+    try_numbers(rt, fresh(), &[0])
 }
 
-fn numbers_from_200(rt: &impl Print) -> io::Result<()> {
-    say(rt, b"begin 200, 72, 73, 73 again:")?;
-    let after_200 = try_number(rt, fresh(), 200)?;
-    let after_72 = try_number(rt, after_200, 72)?;
-    let after_73 = try_number(rt, after_72, 73)?;
-    try_number(rt, after_73, 73)?;
-    Ok(())
-}
-
-fn numbers_from_the_highest(rt: &impl Print) -> io::Result<()> {
-    say(rt, b"\nafter 2^64-1, begin 2^64-129 and 2^64-128:")?;
-    let top = begun(0xffff_ffff_ffff_ffff, b"");
-    let after_top = abandon(top);
-    let after_stale = try_number(rt, after_top.channel, 0xffff_ffff_ffff_ff7f)?;
-    try_number(rt, after_stale, 0xffff_ffff_ffff_ff80)?;
-    Ok(())
+// Begins a message under each number and abandons it, so that the channel is ready for the next.
+fn try_numbers(rt: &impl Print, c: Channel, numbers: &[u64]) -> io::Result<()> {
+    let mut channel = c;
+    for n in numbers {
+        let begun = print_step(rt, begin(channel, Number(*n), b""))?;
+        channel = abandon(begun).channel;
+    }
+    rt.print("\n")
 }
 
 // A message whose pieces start and end inside blocks, and the same one by the sealer.
 pub fn in_pieces(rt: &impl Print) -> io::Result<()> {
     let text = *b"The night mail for the outer stations left at ten, and nobody saw it pass by us.";
     let ad = *b"mail, northern line.";
-    feed_pieces(rt, &text, &ad)?;
+    rt.print("in pieces of 1, 15, 16, 17, 31 and 0: ")?;
+    let fed = feed_pieces(rt, begun(258, &ad), &text)?;
+    let tag = finish(fed).answer.unwrap_or([0u8; 16]);
+    println!(rt; "{}", Hex(&tag))?;
     seal_at_once(rt, &text, &ad)
+}
+
+// Feeds the text in pieces, each with an output just as long, and prints what they are sealed to.
+fn feed_pieces(rt: &impl Print, c: Channel, text: &[u8]) -> io::Result<Channel> {
+    let mut out = [0u8; 80];
+    let mut channel = c;
+    let mut rest = text;
+    for n in [1usize, 15, 16, 17, 31, 0] {
+        let piece = front(rest, n);
+        rest = &rest[piece.len()..];
+        let room = piece.len().min(80);
+        channel = feed(channel, piece, &mut out[..room]).channel;
+        print!(rt; "{}", Hex(&out[..room]))?;
+    }
+    Ok(channel)
 }
 
 fn seal_at_once(rt: &impl Print, text: &[u8], ad: &[u8]) -> io::Result<()> {
     let iv = *b"\x0a\x0b\x0c\x0d\x00\x00\x00\x00\x00\x00\x01\x02";
     let mut sealed = [0u8; 96];
-    gcm::seal(&[0u8; 16], &iv, ad, text, 16, &mut sealed);
-    write_line(rt, b"sealed at once: ", &sealed)
+    let _ = gcm::seal(&[0u8; 16], &iv, ad, text, 16, &mut sealed);
+    println!(rt; "sealed at once: {}", Hex(&sealed))
 }
 
 // Each kind of refusal that a channel knows besides a number's.
 pub fn refusals(rt: &impl Print, zeros: &[u8]) -> io::Result<()> {
     let long = front(zeros, 65537);
     refuse_openings(rt)?;
-    refuse_dead(rt)?;
-    refuse_idle(rt)?;
-    refuse_second_begin(rt)?;
-    refuse_second_finish(rt)?;
-    refuse_ad(rt, long)?;
-    refuse_text(rt, long)?;
+    refuse_without_message(rt)?;
+    refuse_second_calls(rt)?;
+    refuse_lengths(rt, long)?;
     refuse_room(rt)
 }
 
 fn refuse_openings(rt: &impl Print) -> io::Result<()> {
-    refuse_opening(rt, b"opening with a key of 24:", &[0u8; 24], 16)?;
-    refuse_opening(rt, b"opening with a tag of 11:", &[0u8; 16], 11)?;
-    refuse_opening(
-        rt,
-        b"opening with a key of 24 and a tag of 11:",
-        &[0u8; 24],
-        11,
-    )
+    refuse_opening(rt, "key of 24", &[0u8; 24], 16)?;
+    refuse_opening(rt, "tag of 11", &[0u8; 16], 11)?;
+    refuse_opening(rt, "key of 24 and a tag of 11", &[0u8; 24], 11)
 }
 
-fn refuse_opening(rt: &impl Print, name: &[u8], key: &[u8], tag_len: usize) -> io::Result<()> {
-    say(rt, name)?;
-    say_step(rt, channel::open(key, mark(), tag_len))?;
-    say(rt, b"\n")
+fn refuse_opening(rt: &impl Print, name: &str, key: &[u8], tag_len: usize) -> io::Result<()> {
+    print!(rt; "opening with a {name}:")?;
+    print_step(rt, channel::open(key, MARK, tag_len))?;
+    rt.print("\n")
 }
 
-fn refuse_dead(rt: &impl Print) -> io::Result<()> {
+fn refuse_without_message(rt: &impl Print) -> io::Result<()> {
     let dead = opened(b"");
-    say(rt, b"begin, feed, finish, abandon on the dead channel:")?;
-    say_begin(rt, dead, 1, b"")?;
-    refuse_without_message(rt, dead)
+    rt.print("begin, feed, finish, abandon on the dead channel:")?;
+    print_step(rt, begin(dead, Number(1), b""))?;
+    print_calls_on_a_message(rt, dead)?;
+    rt.print("feed, finish, abandon with no message open:")?;
+    print_calls_on_a_message(rt, fresh())
 }
 
-fn refuse_idle(rt: &impl Print) -> io::Result<()> {
-    say(rt, b"feed, finish, abandon with no message open:")?;
-    refuse_without_message(rt, fresh())
+fn print_calls_on_a_message(rt: &impl Print, c: Channel) -> io::Result<()> {
+    print_step(rt, feed(c, b"a", &mut [0u8; 1]))?;
+    print_step(rt, finish(c))?;
+    print_step(rt, abandon(c))?;
+    rt.print("\n")
 }
 
-fn refuse_without_message(rt: &impl Print, c: Channel) -> io::Result<()> {
-    say_feed(rt, c, b"a", &mut [0u8; 1])?;
-    say_finish(rt, c)?;
-    say_step(rt, abandon(c))?;
-    say(rt, b"\n")
+fn refuse_second_calls(rt: &impl Print) -> io::Result<()> {
+    rt.print("begin while a message is open:")?;
+    print_step(rt, begin(begun(1, b""), Number(2), b""))?;
+    rt.print("\nfinish twice:")?;
+    let finished = print_step(rt, finish(begun(1, b"")))?;
+    print_step(rt, finish(finished))?;
+    rt.print("\n")
 }
 
-fn refuse_second_begin(rt: &impl Print) -> io::Result<()> {
-    say(rt, b"begin while a message is open:")?;
-    say_begin(rt, begun(1, b""), 2, b"")?;
-    say(rt, b"\n")
-}
-
-fn refuse_second_finish(rt: &impl Print) -> io::Result<()> {
-    say(rt, b"finish twice:")?;
-    let finished = say_finish(rt, begun(1, b""))?;
-    say_finish(rt, finished)?;
-    say(rt, b"\n")
-}
-
-fn refuse_ad(rt: &impl Print, long: &[u8]) -> io::Result<()> {
-    say(rt, b"begin over 65,537 bytes of associated data:")?;
-    say_begin(rt, fresh(), 1, long)?;
-    say(rt, b"\n")
-}
-
-fn refuse_text(rt: &impl Print, long: &[u8]) -> io::Result<()> {
-    say(rt, b"feed 65,537 bytes at once:")?;
-    say_feed(rt, begun(1, b""), long, &mut [0u8; 1])?;
-    say(rt, b"\n")
+fn refuse_lengths(rt: &impl Print, long: &[u8]) -> io::Result<()> {
+    rt.print("begin over 65,537 bytes of associated data:")?;
+    print_step(rt, begin(fresh(), Number(1), long))?;
+    rt.print("\nfeed 65,537 bytes at once:")?;
+    print_step(rt, feed(begun(1, b""), long, &mut [0u8; 1]))?;
+    rt.print("\n")
 }
 
 fn refuse_room(rt: &impl Print) -> io::Result<()> {
     let mut out = [0xffu8; 15];
-    say(rt, b"feed 16 bytes into an output of 15:")?;
-    say_feed(rt, begun(1, b""), &[0u8; 16], &mut out)?;
-    write_line(rt, b", the output still ", &out)
-}
-
-fn mark() -> Mark {
-    Mark(*b"\x0a\x0b\x0c\x0d")
+    rt.print("feed 16 bytes into an output of 15:")?;
+    print_step(rt, feed(begun(1, b""), &[0u8; 16], &mut out))?;
+    println!(rt; ", the output still {}", Hex(&out))
 }
 
 // A channel with a key and a tag of 16 bytes.
 fn opened(key: &[u8]) -> Channel {
-    let opened = channel::open(key, mark(), 16);
-    opened.channel
+    channel::open(key, MARK, 16).channel
 }
 
 fn fresh() -> Channel {
@@ -149,70 +137,11 @@ fn fresh() -> Channel {
 
 // A fresh channel with a message open.
 fn begun(n: u64, ad: &[u8]) -> Channel {
-    let begun = begin(fresh(), Number(n), ad);
-    begun.channel
+    begin(fresh(), Number(n), ad).channel
 }
 
-// Begins a message and abandons it, so that the channel is ready for the next.
-fn try_number(rt: &impl Print, c: Channel, n: u64) -> io::Result<Channel> {
-    let abandoned = abandon(say_begin(rt, c, n, b"")?);
-    Ok(abandoned.channel)
-}
-
-fn feed_pieces(rt: &impl Print, text: &[u8], ad: &[u8]) -> io::Result<()>
-    requires { 80 ≤ length text.now }
-{
-    say(rt, b"in pieces of 1, 15, 16, 17, 31 and 0: ")?;
-    let at_32 = feed_first(rt, begun(258, ad), text)?;
-    let at_80 = feed_rest(rt, at_32, text)?;
-    write_tag(rt, at_80)
-}
-
-fn write_tag(rt: &impl Print, c: Channel) -> io::Result<()> {
-    let finished = finish(c);
-    let tag = finished.tag;
-    write_line(rt, b"", &tag)
-}
-
-fn feed_first(rt: &impl Print, c: Channel, text: &[u8]) -> io::Result<Channel>
-    requires { 80 ≤ length text.now }
-{
-    let at_1 = feed_part(rt, c, &text[0..1], &mut [0u8; 1])?;
-    let at_16 = feed_part(rt, at_1, &text[1..16], &mut [0u8; 15])?;
-    feed_part(rt, at_16, &text[16..32], &mut [0u8; 16])
-}
-
-fn feed_rest(rt: &impl Print, c: Channel, text: &[u8]) -> io::Result<Channel>
-    requires { 80 ≤ length text.now }
-{
-    let at_49 = feed_part(rt, c, &text[32..49], &mut [0u8; 17])?;
-    let at_80 = feed_part(rt, at_49, &text[49..80], &mut [0u8; 31])?;
-    feed_part(rt, at_80, b"", &mut [0u8; 0])
-}
-
-// Feeds a piece, and writes what it was sealed to.
-fn feed_part(rt: &impl Print, c: Channel, piece: &[u8], out: &mut [u8]) -> io::Result<Channel> {
-    let fed = feed(c, piece, out);
-    write_hex(rt, out)?;
-    Ok(fed.channel)
-}
-
-fn say_begin(rt: &impl Print, c: Channel, n: u64, ad: &[u8]) -> io::Result<Channel> {
-    say_step(rt, begin(c, Number(n), ad))
-}
-
-fn say_feed(rt: &impl Print, c: Channel, piece: &[u8], out: &mut [u8]) -> io::Result<()> {
-    let fed = feed(c, piece, out);
-    say_answer(rt, fed.answer)
-}
-
-fn say_finish(rt: &impl Print, c: Channel) -> io::Result<Channel> {
-    let finished = finish(c);
-    say_answer(rt, finished.answer)?;
-    Ok(finished.channel)
-}
-
-fn say_step(rt: &impl Print, s: Step) -> io::Result<Channel> {
-    say_answer(rt, s.answer)?;
-    Ok(s.channel)
+// Prints what a call answered, and gives the channel that it handed back.
+fn print_step<T: Copy>(rt: &impl Print, step: Step<T>) -> io::Result<Channel> {
+    print_answer(rt, step.answer)?;
+    Ok(step.channel)
 }

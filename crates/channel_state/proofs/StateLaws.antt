@@ -1,5 +1,5 @@
 -- What an answer of number 0 tells: the channel's phase, and the lengths behind it.
-use mathlib.Core.Path.{◌≡◌, refl, sym, subst}
+use mathlib.Core.Path.{◌≡◌, refl}
 use mathlib.Core.Bool.{Bool, true, false, not, cond, ◌||◌, true≢false}
 use mathlib.Core.List.{List}
 use Prim.Native.Nat.{ℕ, suc, ◌+◌, ◌^◌, ◌≤◌, ◌<◌}
@@ -9,22 +9,10 @@ use lib.Dec.{eqb}
 use lib.ListN.{length}
 use Rattle.aes.proofs.CipherLaws.{length-enciphered}
 use Rattle.ledger.specs.Ledger.{verdict_of}
-use Rattle.rows.specs.Rows.{longest_ad, longest_text, key_bad, tag_bad, ad_bad, text_bad, too_short}
-use Rattle.rows.proofs.LengthLaws.{key_fits, within}
+use Rattle.rows.specs.Rows.{longest_text, ad_bad, text_bad, too_short}
 use Rattle.pieces.proofs.PieceLaws.{length-crypted_at}
 use Rattle.channel_state.specs.declared.Channel.{Channel}
-use Rattle.channel_state.specs.State.{
-  busy,
-  idle,
-  rounds_in,
-  cipher_of,
-  iv_in,
-  opening_number,
-  begin_number,
-  feed_number,
-  piece_of,
-  end_number,
-}
+use Rattle.channel_state.specs.State.{busy, idle, cipher_of, iv_in, begin_number, feed_number, piece_of, end_number}
 
 -- what answers 0 has passed the test in front, and neither of two tests failed
 pub past : (k : ℕ) (b : Bool) (n : ℕ) → cond b (suc k) n ≡ 0 → (b ≡ false) × (n ≡ 0)
@@ -70,18 +58,7 @@ pub piece_size : (c : Channel) (piece : List ℕ) → length (piece_of c piece) 
 unfolding piece_of
 piece_size c piece = length-crypted_at (cipher_of c) (length-enciphered c.words _) (iv_in c) c.message.text piece
 
--- The cipher's rounds are few enough for the sixty words.
-pub rounds_few : (c : Channel) {r : ℕ} → r ≡ rounds_in c → r ≤ 14
-rounds_few c is = subst (λ r. r ≤ 14) (sym is) (go (eqb c.rounds 14))
-  where
-    go : (b : Bool) → cond b 14 10 ≤ 14
-    go true = omega arith
-    go false = omega arith
-
--- What begin and feed are done with fits what is called behind them, and so does an opening's key and tag length.
-pub begin-fits : (c : Channel) (n ad : ℕ) → begin_number c n ad ≡ 0 → ad < 2 ^ 32
-begin-fits c n ad clear = omega (arith, ltb-false longest_ad ad (begin-done c n ad clear).2)
-
+-- What a feed is done with fits what is called behind it.
 pub feed-fits : (c : Channel) (piece room : ℕ) → feed_number c piece room ≡ 0
     → (c.message.text + piece < 2 ^ 32) × (piece ≤ room)
 unfolding feed_number
@@ -90,10 +67,3 @@ feed-fits c piece room clear =
     let second = past 4 (text_bad (c.message.text + piece)) _ first.1 in
     let third = past 6 (too_short room piece) _ second.1 in
     (omega (arith, ltb-false longest_text (c.message.text + piece) second.0), ltb-false room piece third.0)
-
-pub opening_fits : (key t : ℕ) → opening_number key t ≡ 0 → ((16 ≤ key) × (key ≤ 32)) × (t ≤ 16)
-unfolding opening_number tag_bad
-opening_fits key t clear =
-    let first = past 0 (key_bad key) _ clear in
-    let second = past 2 (tag_bad t) _ first.1 in
-    (key_fits key first.0, within t 12 16 second.0)

@@ -7,13 +7,13 @@ ghost use Rattle.message.specs.Message.{no_message};
 ghost use Rattle.channel_state.specs.State.{dead_channel, new_channel, begun_with, piece_of, message_with, with_message};
 ghost use Rattle.channel_state.specs.State.{rounds_in, message_tag};
 
-use aes::encipher_by;
-use ghash::{block_of, element_of};
-use hash_field::{Element, plus};
+use aes::Cipher;
+use hash_field::Element;
 use ledger::{Ledger, accept, fresh};
 use message::{Message, cut, message_after, message_begun, message_sum, no_message};
 use mode::hash_key;
-use pieces::{counter_at, crypt_at};
+use pieces::{counter_at, crypt_at, iv_of};
+use sbox::Table;
 use schedule::expand;
 
 // A station's mark: the first four bytes of every IV of its channel.
@@ -33,8 +33,9 @@ pub struct Channel {
     pub words: [u32; 60],
     pub h: Element,
     pub mark: [u8; 4],
+    // How many rounds, and the tag's length in bytes, which no living channel has as 0. Numbers, no enum or `Option`: C holds the
+    // struct and may hand in any.
     pub rounds: u32,
-    // The tag's length in bytes, which no living channel has as 0.
     pub tag: u32,
     pub ledger: Ledger,
     pub message: Message,
@@ -46,7 +47,7 @@ pub fn dead() -> Channel
 {
     Channel {
         words: [0u32; 60],
-        h: Element { high: 0, low: 0 },
+        h: Element::ZERO,
         mark: [0u8; 4],
         rounds: 0,
         tag: 0,
@@ -56,21 +57,25 @@ pub fn dead() -> Channel
 }
 
 // The channel that a key, a mark and a tag length open.
+#[tactic(auto, using(hash_field::proofs::ElementLaws::element_is), unfolding(crate::specs::State::new_channel, aes::specs::Cipher::enciphered))]
 pub fn new_channel(key: &[u8], mark: Mark, tag_len: usize) -> Channel
     requires in_bounds { (16 ≤ length key.now) × (length key.now ≤ 32) }
     requires tag_len_bound { tag_len ≤ 16 }
     ensures { result ≡ new_channel key.now mark.0 tag_len }
 {
-    let table = sbox::table();
+    let table = Table::new();
     let words = expand(&table, key);
-    let rounds = key.len() / 4 + 6;
-    let h = hash_key(&table, &words, rounds);
-    let bytes = mark.0;
+    let cipher = Cipher {
+        table: &table,
+        words: &words,
+        rounds: key.len() / 4 + 6,
+    };
+    let Mark(mark) = mark;
     Channel {
         words,
-        h,
-        mark: bytes,
-        rounds: rounds as u32,
+        h: hash_key(cipher),
+        mark,
+        rounds: cipher.rounds as u32,
         tag: tag_len as u32,
         ledger: fresh(),
         message: no_message(),
@@ -83,37 +88,23 @@ pub fn begun(c: Channel, n: u64, ad: &[u8]) -> Channel
     requires { length ad.now < 2 ^ 32 }
     ensures { result ≡ begun_with c n ad.now }
 {
-    let h = c.h;
-    let ledger = c.ledger;
-    let used = accept(ledger, n);
-    let message = message_begun(h, n, ad);
-    let mut next = c;
-    next.ledger = used;
-    next.message = message;
-    next
+    Channel {
+        ledger: accept(c.ledger, n),
+        message: message_begun(c.h, n, ad),
+        ..c
+    }
 }
 
 // The ciphertext of a piece of the open message, written to the front of `out`.
 #[tactic(auto, unfolding(crate::specs::State::piece_of))]
-pub fn crypt_piece(out: &mut [u8], c: Channel, piece: &[u8])
+pub fn crypt_piece(out: &mut [u8], c: &Channel, piece: &[u8])
     requires { length piece.now ≤ length out.old }
-    ensures { out.new ≡ piece_of c piece.now ++ drop (length piece.now) out.old }
+    ensures { out.new ≡ piece_of c.now piece.now ++ drop (length piece.now) out.old }
 {
-    let table = sbox::table();
-    let words = c.words;
-    let mark = c.mark;
-    let m = c.message;
-    let before = m.text as usize;
-    crypt_at(
-        out,
-        &table,
-        &words,
-        rounds_of(c),
-        mark,
-        m.number,
-        before,
-        piece,
-    );
+    let table = Table::new();
+    let iv = iv_of(c.mark, c.message.number);
+    let before = c.message.text as usize;
+    crypt_at(out, cipher(c, &table), iv, before, piece);
 }
 
 // The channel with ciphertext bytes taken into its open message.
@@ -121,43 +112,42 @@ pub fn with_bytes(c: Channel, bytes: &[u8]) -> Channel
     requires { c.message.text + length bytes.now < 2 ^ 32 }
     ensures { result ≡ with_message c (message_with c bytes.now) }
 {
-    let h = c.h;
-    let m = c.message;
-    let message = message_after(h, m, bytes);
-    let mut next = c;
-    next.message = message;
-    next
+    Channel {
+        message: message_after(c.h, c.message, bytes),
+        ..c
+    }
 }
 
 // The channel with no message; all else stays.
 pub fn ended(c: Channel) -> Channel
     ensures { result ≡ with_message c no_message }
 {
-    let none = no_message();
-    let mut next = c;
-    next.message = none;
-    next
-}
-
-// How many rounds its cipher has, also where the field holds no count of rounds.
-fn rounds_of(c: Channel) -> usize
-    ensures { result ≡ rounds_in c }
-{
-    if c.rounds == 14 { 14 } else { 10 }
+    Channel {
+        message: no_message(),
+        ..c
+    }
 }
 
 // The tag of the open message, zeros past the tag's length.
 #[tactic(auto, unfolding(crate::specs::State::message_tag))]
-pub fn message_tag(c: Channel) -> [u8; 16]
-    ensures { result ≡ sixteen (take c.tag (message_tag c)) }
+pub fn message_tag(c: &Channel) -> [u8; 16]
+    ensures { result ≡ sixteen (take c.now.tag (message_tag c.now)) }
 {
-    let table = sbox::table();
-    let words = c.words;
-    let mark = c.mark;
-    let number = c.message.number;
-    let h = c.h;
-    let m = c.message;
-    let sum = message_sum(h, m);
-    let mask = element_of(encipher_by(&table, &words, rounds_of(c), counter_at(mark, number, 0)));
-    cut(block_of(plus(sum, mask)), c.tag)
+    let table = Table::new();
+    let sum = message_sum(c.h, c.message);
+    let first = counter_at(iv_of(c.mark, c.message.number), 0);
+    let mask = Element::from(cipher(c, &table).encipher(first));
+    cut(<[u8; 16]>::from(sum ^ mask), c.tag)
+}
+
+// The channel's cipher. It has as many rounds as one of the two key lengths asks for, also where the field holds no such count.
+fn cipher<'a>(c: &'a Channel, table: &'a Table) -> Cipher<'a>
+    ensures words { result.words.now ≡ c.now.words }
+    ensures rounds { result.rounds ≡ rounds_in c.now }
+{
+    Cipher {
+        table,
+        words: &c.words,
+        rounds: if c.rounds == 14 { 14 } else { 10 },
+    }
 }

@@ -9,8 +9,10 @@ use borrow.Author.Tests.{ltb-true, ltb-false}
 use lib.Dec.{ltb}
 use lib.ListN.{length, get_or, take, drop, length-append, length-take, length-drop, get_or-eq_default}
 use lib.Seq.{drop_at}
-use Rattle.answer.specs.declared.Answer.{Answer}
+use Rattle.std.specs.Prelude.{Result}
+use Rattle.answer.specs.declared.Refusal.{Refusal}
 use Rattle.answer.specs.Number.{number_of}
+use Rattle.answer.specs.Values.{count_in}
 use Rattle.answer.proofs.DoneLaws.{when_done, when_refused}
 use Rattle.aes.specs.Cipher.{enciphered}
 use Rattle.aes.proofs.CipherLaws.{enciphered-sixteen}
@@ -78,11 +80,11 @@ use Rattle.claims.specs.Demand1.{
 
 -- ---- the rows
 
-by_rows : (rows : List Bool) (answer : Answer) → number_of answer ≡ lowest 1 rows → ByRows rows answer
+by_rows : {A : Type 0} (rows : List Bool) (answer : Result A Refusal) → number_of answer ≡ lowest 1 rows → ByRows rows answer
 by_rows rows answer is = (lowest_exactly rows is, lowest_none rows is)
 
 -- 9 before the rows, where row 9 is not among them
-nine_first : (wrong : Bool) (rows : List Bool) (answer : Answer) → get_or rows 8 false ≡ false
+nine_first : {A : Type 0} (wrong : Bool) (rows : List Bool) (answer : Result A Refusal) → get_or rows 8 false ≡ false
     → number_of answer ≡ cond wrong 9 (lowest 1 rows)
     → NineFirst wrong rows answer
 nine_first true rows answer absent is = ((λ e. refl, λ e. is), λ passes. absurd (true≢false passes))
@@ -180,7 +182,7 @@ open_answers_by_the_rows key iv ad s t out r left kept = (
       let clear : open_number key iv ad s t out ≡ 0 = sym kept.answer ∙ done in
       let allowed = open_allows (length key) (length iv) (length ad) (length s) t (length out) _ clear in
       let opens = opens_to_the_text key iv ad s t out kept done in
-      let count : r.count ≡ length s - t = kept.count ∙ when_done n 0 clear in
+      let count : count_in r ≡ length s - t = kept.count ∙ when_done n 0 clear in
       let size : length opens.0 ≡ length s - t = sym opens.3 ∙ count in
       front n opens.0 out size allowed.1.1 count (opens.4 ∙ ap (λ (k : ℕ). opens.0 ++ drop k out) size),
   λ refused. (

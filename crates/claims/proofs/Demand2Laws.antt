@@ -8,6 +8,7 @@ use Prim.Native.Nat.{ℕ, ◌+◌, ◌≤◌}
 use borrow.Author.Tests.{le-ltb}
 use lib.ListN.{length, take, drop}
 use lib.Seq.{take_at}
+use Rattle.answer.specs.Values.{count_in}
 use Rattle.answer.proofs.DoneLaws.{when_done}
 use Rattle.aes.specs.Cipher.{enciphered}
 use Rattle.aes.proofs.CipherLaws.{enciphered-sixteen}
@@ -72,7 +73,7 @@ pub seal_is_aes_gcm : SealIsAesGcm
 seal_is_aes_gcm key iv ad text t out r left kept allowed short-ad short-text room =
     let clear = no_row key iv ad text t out allowed short-ad short-text room in
     let size = length-sealed (enciphered key) (enciphered-sixteen key) iv ad t text allowed.2.1 in
-    let count : r.count ≡ length text + t = kept.count ∙ when_done (length text + t) 0 clear in (
+    let count : count_in r ≡ length text + t = kept.count ∙ when_done (length text + t) 0 clear in (
       kept.answer ∙ clear,
       ap₂ take count (kept.bytes ∙ when_done _ out clear)
           ∙ take_at (sealed (enciphered key) iv ad t text) (drop (length text + t) out) (length text + t) size,

@@ -5,6 +5,7 @@ use mathlib.Core.List.{List, []}
 use Prim.Native.Nat.{ℕ}
 use native.Mathlib.Omega.{arith}
 use lib.ListN.{length, get_or, take}
+use Rattle.answer.specs.Values.{tag_in}
 use Rattle.octets.specs.Block.{blocks_for}
 use Rattle.aes.specs.Cipher.{enciphered}
 use Rattle.mode.specs.Mode.{hash_key, first_block, tag_by, whole_tag}
@@ -55,7 +56,7 @@ messages_are_made_of_their_blocks =
           let m = now.message in
           let j = first_block h (iv_of mark m.number) in
           let first = ap (λ (s : List (List ℕ)). get_or s 0 []) (inputs_first j (blocks_for (length m.text))) in
-          subst (Newest (TaggedByItsFirstBlock key mark t r.tag)) (sym now.newest)
+          subst (Newest (TaggedByItsFirstBlock key mark t (tag_in r.answer))) (sym now.newest)
           (ap (take t) kept.tag
           ∙ tag-out key mark t opened c (run_keeps (new_channel key mark t) calls) m.number m.ad m.text now.holds
           ∙ ap₂ (λ (b d : List ℕ). take t (tag_by h (enciphered key) b m.ad d)) (sym first)

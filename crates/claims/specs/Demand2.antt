@@ -1,8 +1,9 @@
 -- Demand 2: sealing is AES-GCM, opening undoes it and refuses everything else, and pieces are the whole. The AES cipher of a key,
 -- `enciphered key`, is defined in `aes/specs/`, the mode over it, `sealed`, in `mode/specs/`.
-use Rattle.std.specs.Prelude.{◌≡◌, false, List, ◌++◌, ◌↔◌, ◌⊎◌, ℕ, ◌+◌, ◌≤◌, length, take, drop}
-use Rattle.answer.specs.declared.Outcome.{Outcome}
+use Rattle.std.specs.Prelude.{◌≡◌, Result, false, List, ◌++◌, ◌↔◌, ◌⊎◌, ℕ, ◌+◌, ◌≤◌, length, take, drop}
+use Rattle.answer.specs.declared.Refusal.{Refusal}
 use Rattle.answer.specs.Number.{number_of}
+use Rattle.answer.specs.Values.{count_in, tag_in}
 use Rattle.aes.specs.Cipher.{enciphered}
 use Rattle.mode.specs.Mode.{hash_key, first_block, sealed}
 use Rattle.counter.specs.Counter.{crypted}
@@ -11,8 +12,6 @@ use Rattle.gcm.specs.Promise.{SealPromise, OpenPromise}
 use Rattle.pieces.specs.Piece.{iv_of}
 use Rattle.channel_state.specs.declared.Channel.{Channel}
 use Rattle.channel.specs.declared.Step.{Step}
-use Rattle.channel.specs.declared.Fed.{Fed}
-use Rattle.channel.specs.declared.Finished.{Finished}
 use Rattle.channel_state.specs.State.{idle, new_channel, opening_number, begin_number, begin_of, feed_number, end_number, tag_out}
 use Rattle.channel.specs.Promise.{BeginPromise, FeedPromise, FinishPromise, AbandonPromise}
 use Rattle.runs.specs.Run.{
@@ -47,65 +46,65 @@ Allowed key iv tag = ((key ≡ 16) ⊎ (key ≡ 32)) × ((1 ≤ iv) × (iv ≤ l
 -- associated data and text are within their limits and the output has room, it is done, and its bytes are the sealed form.
 abbrev pub SealIsAesGcm : Type 0
 SealIsAesGcm =
-    (key iv ad text : List ℕ) (tag : ℕ) (out : List ℕ) (result : Outcome) (left : List ℕ)
+    (key iv ad text : List ℕ) (tag : ℕ) (out : List ℕ) (result : Result ℕ Refusal) (left : List ℕ)
     → SealPromise key iv ad text tag out result left
     → Allowed (length key) (length iv) tag
     → length ad ≤ longest_ad
     → length text ≤ longest_text
     → length text + tag ≤ length out
-    → (number_of result.answer ≡ 0) × (take result.count left ≡ sealed (enciphered key) iv ad tag text)
+    → (number_of result ≡ 0) × (take (count_in result) left ≡ sealed (enciphered key) iv ad tag text)
 
 -- ---- opening
 
 -- Opening, once lengths pass, refuses exactly when no text has that sealed form,
 abbrev pub OpenRefusesExactlyWithoutText : Type 0
 OpenRefusesExactlyWithoutText =
-    (key iv ad bytes : List ℕ) (tag : ℕ) (out : List ℕ) (result : Outcome) (left : List ℕ)
+    (key iv ad bytes : List ℕ) (tag : ℕ) (out : List ℕ) (result : Result ℕ Refusal) (left : List ℕ)
     → OpenPromise key iv ad bytes tag out result left
     → lowest 1 (open_length_rows (length key) (length iv) (length ad) (length bytes) tag (length out)) ≡ 0
-    → (number_of result.answer ≡ 8) ↔ ((text : List ℕ) → sealed (enciphered key) iv ad tag text ≡ bytes → ⊥)
+    → (number_of result ≡ 8) ↔ ((text : List ℕ) → sealed (enciphered key) iv ad tag text ≡ bytes → ⊥)
 
 -- and else writes the only such text.
 abbrev pub OpenWritesTheOnlyText : Type 0
 OpenWritesTheOnlyText =
-    (key iv ad bytes : List ℕ) (tag : ℕ) (out : List ℕ) (result : Outcome) (left : List ℕ)
+    (key iv ad bytes : List ℕ) (tag : ℕ) (out : List ℕ) (result : Result ℕ Refusal) (left : List ℕ)
     → OpenPromise key iv ad bytes tag out result left
-    → number_of result.answer ≡ 0
+    → number_of result ≡ 0
     → (text : List ℕ)
     × (sealed (enciphered key) iv ad tag text ≡ bytes)
     × ((other : List ℕ) → sealed (enciphered key) iv ad tag other ≡ bytes → other ≡ text)
-    × (result.count ≡ length text)
+    × (count_in result ≡ length text)
     × (left ≡ text ++ drop (length text) out)
 
 -- Opening what was sealed gives the text back.
 abbrev pub OpenGivesTheTextBack : Type 0
 OpenGivesTheTextBack =
-    (key iv ad text : List ℕ) (tag : ℕ) (out : List ℕ) (result : Outcome) (left : List ℕ)
+    (key iv ad text : List ℕ) (tag : ℕ) (out : List ℕ) (result : Result ℕ Refusal) (left : List ℕ)
     → SealPromise key iv ad text tag out result left
-    → number_of result.answer ≡ 0
-    → (back : List ℕ) (result' : Outcome) (left' : List ℕ)
-    → OpenPromise key iv ad (take result.count left) tag back result' left'
+    → number_of result ≡ 0
+    → (back : List ℕ) (result' : Result ℕ Refusal) (left' : List ℕ)
+    → OpenPromise key iv ad (take (count_in result) left) tag back result' left'
     → length text ≤ length back
-    → (number_of result'.answer ≡ 0) × (take result'.count left' ≡ text)
+    → (number_of result' ≡ 0) × (take (count_in result') left' ≡ text)
 
 -- ---- pieces
 
 -- Each call's answer, the channel that it hands back, a feed's bytes and a finish's tag are those that the claims on lists of calls
 -- speak of: an accepted begin or feed is one that answered 0.
 pub record RunsAreTheCalls : Type 0 where
-  pub begun : (channel : Channel) (number : ℕ) (ad : List ℕ) (result : Step) → BeginPromise channel number ad result
+  pub begun : (channel : Channel) (number : ℕ) (ad : List ℕ) (result : Step (Unit {0})) → BeginPromise channel number ad result
       → (number_of result.answer ≡ begin_number channel number (length ad))
       × (result.channel ≡ after channel (begin number ad))
-  pub fed : (channel : Channel) (piece out : List ℕ) (result : Fed) (left : List ℕ) → FeedPromise channel piece out result left
+  pub fed : (channel : Channel) (piece out : List ℕ) (result : Step ℕ) (left : List ℕ) → FeedPromise channel piece out result left
       → let bytes = wrote channel (feed piece (length out)) in
       (number_of result.answer ≡ feed_number channel (length piece) (length out))
       × (result.channel ≡ after channel (feed piece (length out)))
       × (left ≡ bytes ++ drop (length bytes) out)
-  pub finished : (channel : Channel) (result : Finished) → FinishPromise channel result
+  pub finished : (channel : Channel) (result : Step (List ℕ)) → FinishPromise channel result
       → (number_of result.answer ≡ end_number channel)
       × (result.channel ≡ after channel finish)
-      × (result.tag ≡ tag_out channel)
-  pub abandoned : (channel : Channel) (result : Step) → AbandonPromise channel result
+      × (tag_in result.answer ≡ tag_out channel)
+  pub abandoned : (channel : Channel) (result : Step (Unit {0})) → AbandonPromise channel result
       → (number_of result.answer ≡ end_number channel) × (result.channel ≡ after channel abandon)
 
 -- A channel message cut anywhere has the bytes of the whole sealed at once: begun at any point after an opening and fed any pieces,

@@ -4,6 +4,7 @@
 use Rattle.std.specs.Prelude.{◌≡◌, false, List, [], map, ℕ, ◌<◌, ◌≤◌, length, get_or, take, drop, replicate}
 use Rattle.std.specs.Int.Bits.{bit_xor}
 use Rattle.answer.specs.Number.{number_of}
+use Rattle.answer.specs.Values.{tag_in}
 use Rattle.octets.specs.Block.{number_at, block_bytes, blocks_for}
 use Rattle.octets.specs.Bytes.{xored, joined}
 use Rattle.aes.specs.Cipher.{enciphered}
@@ -13,7 +14,6 @@ use Rattle.mode.specs.Mode.{hash_key, first_block, hashed_blocks}
 use Rattle.counter.specs.Counter.{inputs}
 use Rattle.rows.specs.Rows.{longest_text, ad_bad}
 use Rattle.channel.specs.declared.Step.{Step}
-use Rattle.channel.specs.declared.Finished.{Finished}
 use Rattle.channel_state.specs.State.{busy, opening_number, new_channel}
 use Rattle.channel.specs.Promise.{BeginPromise, FinishPromise}
 use Rattle.runs.specs.Run.{
@@ -42,7 +42,7 @@ LedgerTellsTheHistory =
 -- A number is stale, used or accepted exactly as the history of accepted numbers says, where phase and associated data pass.
 abbrev pub NumbersAreJudgedByTheHistory : Type 0
 NumbersAreJudgedByTheHistory =
-    (key mark : List ℕ) (tag : ℕ) (calls : List Call) (number : ℕ) (ad : List ℕ) (result : Step)
+    (key mark : List ℕ) (tag : ℕ) (calls : List Call) (number : ℕ) (ad : List ℕ) (result : Step (Unit {0}))
     → BeginPromise (run (new_channel key mark tag) calls) number ad result
     → busy (run (new_channel key mark tag) calls) ≡ false
     → ad_bad (length ad) ≡ false
@@ -69,9 +69,9 @@ pub record MessagesAreMadeOfTheirBlocks : Type 0 where
   pub bytes : (key mark : List ℕ) (tag : ℕ) → opening_number (length key) tag ≡ 0
       → (calls : List Call) → Every (MadeOfItsBlocks key mark) (messages (new_channel key mark tag) calls)
   pub tags : (key mark : List ℕ) (tag : ℕ) → opening_number (length key) tag ≡ 0
-      → (calls : List Call) (result : Finished) → FinishPromise (run (new_channel key mark tag) calls) result
+      → (calls : List Call) (result : Step (List ℕ)) → FinishPromise (run (new_channel key mark tag) calls) result
       → number_of result.answer ≡ 0
-      → Newest (TaggedByItsFirstBlock key mark tag result.tag) (messages (new_channel key mark tag) calls)
+      → Newest (TaggedByItsFirstBlock key mark tag (tag_in result.answer)) (messages (new_channel key mark tag) calls)
 
 -- The cipher input blocks of all messages all differ, also of those abandoned or still open (a message number has 64 bits),
 abbrev pub BlocksOfAllMessagesDiffer : Type 0

@@ -1,4 +1,5 @@
-// Ewplander for C and Rust: each call is the one by value, with the answer as its number (rules R2.0 to R2.11).
+// Ewplander for C and Rust: each call is the one by value. C has no `Result`, so the answer is told as its number (rules R2.0 to
+// R2.11), and a count or a tag is stored.
 #![tactic(auto)]
 
 ghost use Rattle.told.specs.Call.{OpeningCall, BeginCall, FeedCall, FinishCall, AbandonCall};
@@ -21,9 +22,8 @@ pub extern "C" fn ewplander_seal(
     ensures { SealCall key.now iv.now ad.now text.now tag_len out.old result count.new out.new }
 {
     let sealed = gcm::seal(key, iv, ad, text, tag_len, out);
-    *count = sealed.count;
-    let answer = sealed.answer;
-    number(answer) as u32
+    *count = sealed.unwrap_or(0);
+    u32::from(number(sealed))
 }
 
 // Opens as `gcm::open` does, answers its number, and stores how many bytes were written.
@@ -40,9 +40,8 @@ pub extern "C" fn ewplander_open(
     ensures { OpenCall key.now iv.now ad.now sealed.now tag_len out.old result count.new out.new }
 {
     let opened = gcm::open(key, iv, ad, sealed, tag_len, out);
-    *count = opened.count;
-    let answer = opened.answer;
-    number(answer) as u32
+    *count = opened.unwrap_or(0);
+    u32::from(number(opened))
 }
 
 // Opens a channel as `channel::open` does, and stores it; a refusal stores the dead one.

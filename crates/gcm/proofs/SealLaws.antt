@@ -1,17 +1,19 @@
 -- A seal and an open put together from their steps: the text crypted into the output, the tag of what stands there, and the tag
 -- written behind it or compared.
-use mathlib.Core.Path.{◌≡◌, refl, ◌∙◌, ap, ap₂, sym}
-use mathlib.Core.Bool.{Bool, true, false, not}
+use mathlib.Core.Path.{◌≡◌, ◌∙◌, ap, ap₂, sym}
+use mathlib.Core.Bool.{Bool, true, false, not, cond}
 use mathlib.Core.List.{List, ◌++◌}
 use Prim.Native.Nat.{ℕ, ◌+◌, ◌-◌, ◌≤◌}
 use native.Mathlib.Omega.{arith}
 use borrow.Author.Tests.{not-true, not-false}
 use lib.ListN.{length, take, drop, length-drop}
 use lib.Seq.{paste, take_at, drop-append-add, drop-drop, length-take-le}
+use Rattle.std.specs.Prelude.{Ok, Err}
+use Rattle.answer.specs.declared.Refusal.TheVariants.{TagDiffers}
 use Rattle.octets.specs.Bytes.{same}
 use Rattle.mode.specs.Mode.{hash_key, first_block, tag_by, whole_tag, sealed_by, sealed, genuine, opened, ciphertext_of, tag_of}
 use Rattle.counter.specs.Counter.{crypted}
-use Rattle.gcm.specs.Promise.{OpenedBy, sealed_into}
+use Rattle.gcm.specs.Promise.{OpenedBy, sealed_into, opened_into}
 use Rattle.counter.proofs.CounterLaws.{length-crypted}
 
 module _
@@ -51,12 +53,21 @@ module _
             let count : length (tag_of t s) ≡ t = length-drop (length s - t) s ∙ omega arith in
             is_ok ∙ rw (is-given, tag_is (ciphertext_of t s) is-tag, count)
 
-        pub refused_in_place : not ok ≡ true → OpenedBy e iv ad t s out false out
-        refused_in_place differs = record { judged = sym (not-true ok differs) ∙ judged; bytes = refl }
+        pub refused_in_place : not ok ≡ true → OpenedBy e iv ad t s out (Err TagDiffers) out
+        refused_in_place differs =
+            let false_tag = sym judged ∙ not-true ok differs in
+            record {
+              judged = sym (ap (λ g. cond g (Ok tt) (Err TagDiffers)) false_tag);
+              bytes = sym (ap (λ g. cond g (opened_into e iv t s out) out) false_tag);
+            }
 
         pub opened_in_place : {left : List ℕ} → not ok ≡ false → left ≡ crypted e j (ciphertext_of t s) ++ drop (length (ciphertext_of t s)) out
-            → OpenedBy e iv ad t s out true left
+            → OpenedBy e iv ad t s out (Ok tt) left
         unfolding opened
         opened_in_place agrees is-left =
+            let true_tag = sym judged ∙ not-false ok agrees in
             let count : length (ciphertext_of t s) ≡ length s - t = length-take-le (length s - t) s (omega arith) in
-            record { judged = sym (not-false ok agrees) ∙ judged; bytes = is-left ∙ rw (j_is, count) }
+            record {
+              judged = sym (ap (λ g. cond g (Ok tt) (Err TagDiffers)) true_tag);
+              bytes = is-left ∙ rw (j_is, count, true_tag);
+            }

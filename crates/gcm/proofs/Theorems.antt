@@ -10,8 +10,10 @@ use borrow.Author.Tests.{not-false, le-ltb}
 use lib.Dec.{ltb}
 use lib.ListN.{length, get_or, take, drop}
 use lib.Seq.{take_at}
-use Rattle.answer.specs.declared.Outcome.{Outcome}
+use Rattle.std.specs.Prelude.{Result}
+use Rattle.answer.specs.declared.Refusal.{Refusal}
 use Rattle.answer.specs.Number.{number_of}
+use Rattle.answer.specs.Values.{count_in}
 use Rattle.answer.proofs.DoneLaws.{when_done}
 use Rattle.answer.proofs.NumberLaws.{number_injective}
 use Rattle.octets.specs.Block.{blocks_for}
@@ -37,52 +39,51 @@ pub message_blocks_differ : (key iv text : List ℕ) → length text ≤ longest
 message_blocks_differ key iv text fits = inputs-differ _ (blocks_for (length text)) (omega arith)
 
 -- two results with one number, one count and one output are equal
-determined : {r r' : Outcome} {left left' bytes : List ℕ} {number count : ℕ}
-    → number_of r.answer ≡ number → r.count ≡ count → left ≡ bytes
-    → number_of r'.answer ≡ number → r'.count ≡ count → left' ≡ bytes
+determined : {r r' : Result ℕ Refusal} {left left' bytes : List ℕ} {number count : ℕ}
+    → number_of r ≡ number → count_in r ≡ count → left ≡ bytes
+    → number_of r' ≡ number → count_in r' ≡ count → left' ≡ bytes
     → (r ≡ r') × (left ≡ left')
 determined {r} {r'} answer count bytes answer' count' bytes' =
-    let one = number_injective r.answer r'.answer (answer ∙ sym answer') in
-    ((λ i. record { answer = one i; count = (count ∙ sym count') i }), bytes ∙ sym bytes')
+    (number_injective r r' 0 (answer ∙ sym answer') (count ∙ sym count'), bytes ∙ sym bytes')
 
-module _ (key iv ad text : List ℕ) (t : ℕ) (out : List ℕ) {r : Outcome} {left : List ℕ} (kept : SealPromise key iv ad text t out r left) where
+module _ (key iv ad text : List ℕ) (t : ℕ) (out : List ℕ) {r : Result ℕ Refusal} {left : List ℕ} (kept : SealPromise key iv ad text t out r left) where
   -- A seal is refused with n exactly when row n applies: its fact holds, and no earlier row's does.
   pub seal_refused_exactly : (n : ℕ) → 0 < n
-      → (number_of r.answer ≡ n) ↔ Applies (seal_rows (length key) (length iv) (length ad) (length text) t (length out)) n
+      → (number_of r ≡ n) ↔ Applies (seal_rows (length key) (length iv) (length ad) (length text) t (length out)) n
   unfolding seal_number
   seal_refused_exactly = lowest_exactly _ kept.answer
 
   -- A seal is done exactly when no row's fact holds.
-  pub seal_done_exactly : (number_of r.answer ≡ 0)
+  pub seal_done_exactly : (number_of r ≡ 0)
       ↔ ((m : ℕ) → get_or (seal_rows (length key) (length iv) (length ad) (length text) t (length out)) m false ≡ false)
   unfolding seal_number
   seal_done_exactly = lowest_none _ kept.answer
 
   -- Two results that a seal's promise allows for one input are equal.
-  pub seal_determined : {r' : Outcome} {left' : List ℕ} → SealPromise key iv ad text t out r' left' → (r ≡ r') × (left ≡ left')
+  pub seal_determined : {r' : Result ℕ Refusal} {left' : List ℕ} → SealPromise key iv ad text t out r' left' → (r ≡ r') × (left ≡ left')
   seal_determined other = determined kept.answer kept.count kept.bytes other.answer other.count other.bytes
 
-module _ (key iv ad s : List ℕ) (t : ℕ) (out : List ℕ) {r : Outcome} {left : List ℕ} (kept : OpenPromise key iv ad s t out r left) where
+module _ (key iv ad s : List ℕ) (t : ℕ) (out : List ℕ) {r : Result ℕ Refusal} {left : List ℕ} (kept : OpenPromise key iv ad s t out r left) where
   -- An open is refused with n exactly when row n applies; row 8 is that the bytes are not genuine.
   pub open_refused_exactly : (n : ℕ) → 0 < n
-      → (number_of r.answer ≡ n)
+      → (number_of r ≡ n)
       ↔ Applies (open_rows (length key) (length iv) (length ad) (length s) t (length out) (not (genuine (enciphered key) iv ad t s))) n
   unfolding open_number
   open_refused_exactly = lowest_exactly _ kept.answer
 
   -- An open is done exactly when no row's fact holds.
-  pub open_done_exactly : (number_of r.answer ≡ 0)
+  pub open_done_exactly : (number_of r ≡ 0)
       ↔ ((m : ℕ) → get_or (open_rows (length key) (length iv) (length ad) (length s) t (length out) (not (genuine (enciphered key) iv ad t s))) m false ≡ false)
   unfolding open_number
   open_done_exactly = lowest_none _ kept.answer
 
   -- Two results that an open's promise allows for one input are equal.
-  pub open_determined : {r' : Outcome} {left' : List ℕ} → OpenPromise key iv ad s t out r' left' → (r ≡ r') × (left ≡ left')
+  pub open_determined : {r' : Result ℕ Refusal} {left' : List ℕ} → OpenPromise key iv ad s t out r' left' → (r ≡ r') × (left ≡ left')
   open_determined other = determined kept.answer kept.count kept.bytes other.answer other.count other.bytes
 
   -- Once lengths pass, an open answers 8 exactly when no text exists whose sealed form the bytes are.
   pub refused_without_text : lowest 1 (open_length_rows (length key) (length iv) (length ad) (length s) t (length out)) ≡ 0
-      → (number_of r.answer ≡ 8) ↔ ((text : List ℕ) → sealed (enciphered key) iv ad t text ≡ s → ⊥)
+      → (number_of r ≡ 8) ↔ ((text : List ℕ) → sealed (enciphered key) iv ad t text ≡ s → ⊥)
   unfolding lowest
   refused_without_text pass =
       let tag = (open_allows (length key) (length iv) (length ad) (length s) t (length out) [] pass).0.rest.long_tag in
@@ -97,11 +98,11 @@ module _ (key iv ad s : List ℕ) (t : ℕ) (out : List ℕ) {r : Outcome} {left
       false_tag false e = refl
 
   -- With 0 an open writes a text whose sealed form the bytes are, it is the only one, and the rest of the output is as it was.
-  pub opens_to_the_text : number_of r.answer ≡ 0
+  pub opens_to_the_text : number_of r ≡ 0
       → (text : List ℕ)
       × (sealed (enciphered key) iv ad t text ≡ s)
       × ((other : List ℕ) → sealed (enciphered key) iv ad t other ≡ s → other ≡ text)
-      × (r.count ≡ length text)
+      × (count_in r ≡ length text)
       × (left ≡ text ++ drop (length text) out)
   unfolding open_number
   opens_to_the_text done =
@@ -134,11 +135,11 @@ reopens key iv ad text t out back clear tag room =
     rw (long, sealed-genuine (enciphered key) iv ad t text tag, whole, rest, fits, no 0, no 1, no 2, no 3, no 4)
 
 -- Opening what was sealed gives the text back: with the same arguments, and an output that has room for it.
-pub opens_what_was_sealed : (key iv ad text : List ℕ) (t : ℕ) (out : List ℕ) {r : Outcome} {left : List ℕ}
-    → SealPromise key iv ad text t out r left → number_of r.answer ≡ 0
-    → (back : List ℕ) {r' : Outcome} {left' : List ℕ}
-    → OpenPromise key iv ad (take r.count left) t back r' left' → length text ≤ length back
-    → (number_of r'.answer ≡ 0) × (take r'.count left' ≡ text)
+pub opens_what_was_sealed : (key iv ad text : List ℕ) (t : ℕ) (out : List ℕ) {r : Result ℕ Refusal} {left : List ℕ}
+    → SealPromise key iv ad text t out r left → number_of r ≡ 0
+    → (back : List ℕ) {r' : Result ℕ Refusal} {left' : List ℕ}
+    → OpenPromise key iv ad (take (count_in r) left) t back r' left' → length text ≤ length back
+    → (number_of r' ≡ 0) × (take (count_in r') left' ≡ text)
 unfolding seal_number
 opens_what_was_sealed key iv ad text t out {r} {left} kept done back {r'} {left'} kept' room =
     let e = enciphered key in
@@ -147,12 +148,12 @@ opens_what_was_sealed key iv ad text t out {r} {left} kept done back {r'} {left'
     let clear : seal_number key iv ad text t out ≡ 0 = sym kept.answer ∙ done in
     let tag = (seal_allows (length key) (length iv) (length ad) (length text) t (length out) clear).0.rest.long_tag in
     let long : length s ≡ n = length-sealed e (enciphered-sixteen key) iv ad t text tag in
-    let given : take r.count left ≡ s =
+    let given : take (count_in r) left ≡ s =
     ap₂ take (kept.count ∙ when_done n 0 clear) (kept.bytes ∙ when_done _ out clear) ∙ take_at s (drop n out) n long in
     let kept'' : OpenPromise key iv ad s t back r' left' = subst (λ bytes. OpenPromise key iv ad bytes t back r' left') given kept' in
     let clear' = reopens key iv ad text t out back clear tag room in
     let rest : length s - t ≡ length text = omega arith in
-    let count' : r'.count ≡ length text = kept''.count ∙ when_done (length s - t) 0 clear' ∙ rest in
+    let count' : count_in r' ≡ length text = kept''.count ∙ when_done (length s - t) 0 clear' ∙ rest in
     let text' : left' ≡ text ++ drop (length s - t) back =
     kept''.bytes ∙ when_done _ back clear' ∙ ap (λ x. x ++ drop (length s - t) back) (opens-sealed e (enciphered-sixteen key) iv ad t text tag) in
     (kept''.answer ∙ clear', ap₂ take count' text' ∙ take_at text (drop (length s - t) back) (length text) refl)

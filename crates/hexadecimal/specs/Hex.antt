@@ -1,5 +1,5 @@
 -- Hex: the digits, the bytes that a line of them stands for, and which lines are good.
-use Rattle.std.specs.Prelude.{Bool, true, ◌&&◌, cond, List, [], ◌∷◌, ℕ, ◌+◌, ◌-◌, ◌*◌, ◌/◌, ◌%◌, leb, ltb, eqb, length}
+use Rattle.std.specs.Prelude.{Option, Some, None, Bool, true, ◌&&◌, cond, List, [], ◌∷◌, ℕ, ◌+◌, ◌-◌, ◌*◌, ◌/◌, ◌%◌, leb, ltb, eqb, length}
 
 abbrev pub within : ℕ → ℕ → ℕ → Bool
 within from to b = leb from b && leb b to
@@ -11,6 +11,10 @@ digit_value b =
     (cond (within 97 102 b) (b - 97 + 10)
     (cond (within 65 70 b) (b - 65 + 10)
     16))
+
+-- the digit that a byte is, by its value
+abbrev pub digit_of : ℕ → Option ℕ
+digit_of b = cond (ltb (digit_value b) 16) (Some (digit_value b)) None
 
 -- the digit of a number below 16, in lower case
 unfoldable pub hex_digit : ℕ → ℕ

@@ -1,81 +1,62 @@
 // A line of hex, taken in byte by byte.
 ghost use Rattle.std.specs.Prelude.{◌≡◌};
-ghost use Rattle.hexadecimal.specs.Line.{fresh_line, spoiled_line, fed, stored, ends_good};
+ghost use Rattle.hexadecimal.specs.Line.{fresh_line, fed, stored, count_of};
 
 use crate::digits::digit_value;
 
-// How many digits the longest line has: two for each byte of its field.
-const MOST_DIGITS: usize = 8192;
+// How many bytes the longest line stands for.
+const LONGEST: usize = 4096;
 
-// What is kept of a line while it is read: how many digits it has, the value of a last one that has no second yet, and
-// whether it is spoiled. The bytes that its digits made are in a buffer beside it.
-#[derive(Clone, Copy)]
+// What is kept of a line while it is read: how many bytes its digits made, and the value of a last digit that has no second yet.
+// The bytes are in a buffer beside it, which stays where the next line begins: so a line is copied and compared without it. A line
+// that can become good no more is kept as `None`.
+#[derive(Clone, Copy, PartialEq, Eq)]
 pub struct Line {
-    pub digits: usize,
-    pub half: u8,
-    pub spoiled: bool,
+    pub bytes: usize,
+    pub half: Option<u8>,
 }
 
 // A line of which nothing was read yet.
-pub fn fresh() -> Line
+pub fn fresh() -> Option<Line>
     ensures { result ≡ fresh_line }
 {
-    Line {
-        digits: 0,
-        half: 0,
-        spoiled: false,
-    }
-}
-
-// A line that can become good no more.
-fn spoilt() -> Line
-    ensures { result ≡ spoiled_line }
-{
-    Line {
-        digits: 0,
-        half: 0,
-        spoiled: true,
-    }
+    Some(Line {
+        bytes: 0,
+        half: None,
+    })
 }
 
 // The line with the byte b behind it. A second digit puts a byte into the buffer.
 #[tactic(auto, unfolding(crate::specs::Line::fed, crate::specs::Line::stored, crate::specs::Line::taken))]
-pub fn feed(buffer: &mut [u8; 4096], line: Line, b: u8) -> Line
+pub fn feed(buffer: &mut [u8; 4096], line: Option<Line>, b: u8) -> Option<Line>
     ensures { (result ≡ fed line b) × (buffer.new ≡ stored line b buffer.old) }
 {
-    if line.spoiled {
-        return spoilt();
+    let Line { bytes, half } = line?;
+    let value = digit_value(b)?;
+    if bytes >= LONGEST {
+        return None;
     }
-    let v = digit_value(b);
-    if v >= 16 {
-        return spoilt();
-    }
-    let digits = line.digits;
-    if digits >= MOST_DIGITS {
-        return spoilt();
-    }
-    if digits % 2 == 0 {
-        return Line {
-            digits: digits + 1,
-            half: v,
-            spoiled: false,
-        };
-    }
-    buffer[digits / 2] = line.half % 16 * 16 + v;
-    Line {
-        digits: digits + 1,
-        half: 0,
-        spoiled: false,
-    }
+    let Some(first) = half else {
+        return Some(Line {
+            bytes,
+            half: Some(value),
+        });
+    };
+    // A digit's value is below 16, which its type does not say.
+    buffer[bytes] = first % 16 * 16 + value;
+    Some(Line {
+        bytes: bytes + 1,
+        half: None,
+    })
 }
 
-// The line, ended here, is good.
-#[tactic(auto, unfolding(crate::specs::Line::ends_good))]
-pub fn ends_good(line: Line) -> bool
-    ensures { result ≡ ends_good line }
+// How many bytes the line stands for, ended here; `None` for a line that is not good.
+#[tactic(auto, unfolding(crate::specs::Line::count_of, crate::specs::Line::ends_good))]
+pub fn count(line: Option<Line>) -> Option<usize>
+    ensures { result ≡ count_of line }
 {
-    if line.spoiled {
-        return false;
+    match line {
+        Some(Line { bytes, half: None }) => Some(bytes),
+        _ => None,
     }
-    line.digits % 2 == 0
 }

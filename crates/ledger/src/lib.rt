@@ -7,7 +7,7 @@ ghost use Rattle.std.specs.Prelude.{◌≡◌};
 ghost use Rattle.answer.specs.Number.{number_of};
 ghost use Rattle.ledger.specs.Ledger.{fresh_ledger, verdict_of, accepted_by};
 
-use answer::Answer;
+use answer::Refusal;
 use window::{has_mark, mark, raise};
 
 // How far below the highest accepted number a number is stale.
@@ -33,24 +33,25 @@ pub fn fresh() -> Ledger
     }
 }
 
-// Whether the number n may be accepted: `Done`, or `Stale`, or `Used`.
-pub fn verdict(l: Ledger, n: u64) -> Answer
+// Whether the number n may be accepted; it is refused as `Stale` or `Used`.
+#[tactic(auto, unfolding(crate::specs::Ledger::verdict_of))]
+pub fn verdict(l: Ledger, n: u64) -> Result<(), Refusal>
     ensures { number_of result ≡ verdict_of l n }
 {
-    if l.high < n {
-        return Answer::Done;
-    }
-    let below = l.high - n;
+    let Some(below) = l.high.checked_sub(n) else {
+        return Ok(());
+    };
     if REACH <= below {
-        return Answer::Stale;
+        return Err(Refusal::Stale);
     }
     if has_mark(l, below) {
-        return Answer::Used;
+        return Err(Refusal::Used);
     }
-    Answer::Done
+    Ok(())
 }
 
 // The ledger with the number n accepted.
+#[tactic(auto, using(crate::proofs::HistoryLaws::raised_high), unfolding(crate::specs::Ledger::accepted_by))]
 pub fn accept(l: Ledger, n: u64) -> Ledger
     ensures { result ≡ accepted_by l n }
 {

@@ -8,8 +8,8 @@ ghost use Rattle.message.specs.Message.{no_message, message_begun, message_after
 
 use ghash::{absorb, hash_bytes, length_block};
 use hash_field::Element;
-use pieces::absorb_bytes;
 use pieces::block::sixteen_of;
+use pieces::{Held, absorb_bytes};
 
 // The message in progress, all zeros where there is none.
 #[repr(C)]
@@ -18,9 +18,9 @@ pub struct Message {
     pub number: u64,
     // The hash so far, over the associated data and every whole block of ciphertext.
     pub sum: Element,
-    // The ciphertext bytes behind the last whole block, and zeros.
+    // The ciphertext bytes behind the last whole block, and zeros; `text` tells how many, in the struct that C holds.
     pub part: [u8; 16],
-    // Not 0 while a message is open.
+    // Not 0 while a message is open. A number, no enum or `Option`: C holds the struct and may hand in any.
     pub phase: u32,
     // The bytes of associated data, and of text so far.
     pub ad: u32,
@@ -33,7 +33,7 @@ pub fn no_message() -> Message
 {
     Message {
         number: 0,
-        sum: Element { high: 0, low: 0 },
+        sum: Element::ZERO,
         part: [0u8; 16],
         phase: 0,
         ad: 0,
@@ -46,11 +46,9 @@ pub fn message_begun(h: Element, n: u64, ad: &[u8]) -> Message
     requires { length ad.now < 2 ^ 32 }
     ensures { result ≡ message_begun (value_of h) n ad.now }
 {
-    let zero = Element { high: 0, low: 0 };
-    let sum = hash_bytes(h, zero, ad);
     Message {
         number: n,
-        sum,
+        sum: hash_bytes(h, Element::ZERO, ad),
         part: [0u8; 16],
         phase: 1,
         ad: ad.len() as u32,
@@ -59,40 +57,34 @@ pub fn message_begun(h: Element, n: u64, ad: &[u8]) -> Message
 }
 
 // The message with bytes of ciphertext taken in.
+#[tactic(auto, unfolding(crate::specs::Message::message_after))]
 pub fn message_after(h: Element, m: Message, bytes: &[u8]) -> Message
     requires { m.text + length bytes.now < 2 ^ 32 }
     ensures { result ≡ message_after (value_of h) m bytes.now }
 {
-    let sum = m.sum;
-    let part = m.part;
     let held = (m.text % 16) as usize;
-    let state = absorb_bytes(h, sum, &part[..held], bytes);
-    let next_sum = state.sum;
-    let next_part = state.part;
+    let Held { sum, part } = absorb_bytes(h, m.sum, &m.part[..held], bytes);
     Message {
-        number: m.number,
-        sum: next_sum,
-        part: next_part,
-        phase: m.phase,
-        ad: m.ad,
+        sum,
+        part,
         text: m.text + bytes.len() as u32,
+        ..m
     }
 }
 
 // The hash of the whole message, its lengths behind it.
+#[tactic(auto, using(ghash::proofs::HashLaws::hash_behind), unfolding(crate::specs::Message::whole_sum))]
 pub fn message_sum(h: Element, m: Message) -> Element
     ensures { value_of result ≡ whole_sum (value_of h) m }
 {
-    let sum = m.sum;
-    let part = m.part;
     let held = (m.text % 16) as usize;
-    let hashed = hash_bytes(h, sum, &part[..held]);
+    let hashed = hash_bytes(h, m.sum, &m.part[..held]);
     absorb(h, hashed, length_block(m.ad as usize, m.text as usize))
 }
 
 // The block's first t bytes, and zeros.
+#[tactic(auto, using(pieces::proofs::SixteenLaws::sixteen_taken))]
 pub fn cut(block: [u8; 16], t: u32) -> [u8; 16]
-    requires { length block ≡ 16 }
     ensures { result ≡ sixteen (take t block) }
 {
     if 16 <= t {

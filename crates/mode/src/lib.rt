@@ -2,28 +2,29 @@
 #![tactic(auto)]
 
 ghost use Rattle.std.specs.Prelude.{◌≡◌, ◌^◌, ◌≤◌, ◌<◌, length, take};
+ghost use Rattle.std.specs.Int.Bits.{bit_or, bit_xor};
+ghost use Rattle.std.specs.List.{fold, zip};
 ghost use Rattle.octets.specs.Block.{block_bytes};
 ghost use Rattle.octets.specs.Bytes.{same};
-ghost use Rattle.sbox.specs.Substitution.{Substitutes};
-ghost use Rattle.aes.specs.Cipher.{enciphered_by};
+ghost use Rattle.aes.specs.Under.{enciphered_under};
 ghost use Rattle.hash_field.specs.Element.{value_of};
 ghost use Rattle.mode.specs.Mode.{hash_key, hashed_iv, first_block, tag_by};
 
-use aes::encipher_by;
+use aes::Cipher;
 use counter::counter_block;
-use ghash::{absorb, block_of, element_of, hash_bytes, length_block};
-use hash_field::{Element, plus};
+use ghash::{absorb, hash_bytes, length_block};
+use hash_field::Element;
 
 // The zero block enciphered (SP 800-38D: H).
-pub fn hash_key(table: &[u8; 256], words: &[u32; 60], rounds: usize) -> Element
-    requires substitutes { Substitutes table.now }
-    requires rounds_bound { rounds ≤ 14 }
-    ensures { value_of result ≡ hash_key (enciphered_by words.now rounds) }
+#[tactic(auto, unfolding(crate::specs::Mode::hash_key))]
+pub fn hash_key(cipher: Cipher) -> Element
+    ensures { value_of result ≡ hash_key (enciphered_under cipher.entry) }
 {
-    element_of(encipher_by(table, words, rounds, [0u8; 16]))
+    Element::from(cipher.encipher([0u8; 16]))
 }
 
 // The first counter block of a message (SP 800-38D: J0).
+#[tactic(auto, unfolding(crate::specs::Mode::first_block))]
 pub fn first_block(h: Element, iv: &[u8]) -> [u8; 16]
     requires { length iv.now < 2 ^ 61 }
     ensures { result ≡ first_block (value_of h) iv.now }
@@ -34,48 +35,43 @@ pub fn first_block(h: Element, iv: &[u8]) -> [u8; 16]
     hashed_first_block(h, iv)
 }
 
+#[tactic(auto, using(crate::proofs::TagLaws::iv_hash), unfolding(hash_field::specs::Element::value_of))]
 fn hashed_first_block(h: Element, iv: &[u8]) -> [u8; 16]
     requires { length iv.now < 2 ^ 61 }
     ensures { result ≡ block_bytes (hashed_iv (value_of h) iv.now) }
 {
-    let zero = Element { high: 0, low: 0 };
-    let sum = hash_bytes(h, zero, iv);
-    block_of(absorb(h, sum, length_block(0, iv.len())))
+    let sum = hash_bytes(h, Element::ZERO, iv);
+    <[u8; 16]>::from(absorb(h, sum, length_block(0, iv.len())))
 }
 
 // The whole tag of a ciphertext under its first block j, by the hash key h.
-pub fn tag(
-    table: &[u8; 256],
-    words: &[u32; 60],
-    rounds: usize,
-    h: Element,
-    j: [u8; 16],
-    ad: &[u8],
-    text: &[u8],
-) -> [u8; 16]
-    requires substitutes { Substitutes table.now }
-    requires rounds_bound { rounds ≤ 14 }
+#[tactic(auto, using(crate::proofs::TagLaws::message_hash), unfolding(crate::specs::Mode::tag_by, hash_field::specs::Element::value_of))]
+pub fn tag(cipher: Cipher, h: Element, j: [u8; 16], ad: &[u8], text: &[u8]) -> [u8; 16]
     requires ad_len_bound { (length ad.now < 2 ^ 61) × (length text.now < 2 ^ 61) }
-    ensures { result ≡ tag_by (value_of h) (enciphered_by words.now rounds) j ad.now text.now }
+    ensures { result ≡ tag_by (value_of h) (enciphered_under cipher.entry) j ad.now text.now }
 {
-    let zero = Element { high: 0, low: 0 };
-    let after_ad = hash_bytes(h, zero, ad);
+    let after_ad = hash_bytes(h, Element::ZERO, ad);
     let after_text = hash_bytes(h, after_ad, text);
     let sum = absorb(h, after_text, length_block(ad.len(), text.len()));
-    let mask = element_of(encipher_by(table, words, rounds, j));
-    block_of(plus(sum, mask))
+    let mask = Element::from(cipher.encipher(j));
+    <[u8; 16]>::from(sum ^ mask)
 }
 
 // Whether the given bytes are the tag's first. Every byte is looked at, also after one that differs.
+#[tactic(auto, using(octets::proofs::BytesLaws::same_differences))]
 pub fn same_tag(tag: [u8; 16], given: &[u8]) -> bool
-    requires { (length tag ≡ 16) × (length given.now ≤ 16) }
+    requires { length given.now ≤ 16 }
     ensures { result ≡ same given.now (take (length given.now) tag) }
 {
-    let mut differing = 0u8;
-    let mut at = 0;
-    while at < given.len() {
-        differing = differing | (given[at] ^ tag[at]);
-        at += 1;
-    }
-    differing == 0
+    differences(tag, given) == 0
+}
+
+// The bits in which the given bytes and the tag's first ones differ, joined by or.
+fn differences(tag: [u8; 16], given: &[u8]) -> u8
+    ensures { result ≡ fold (λ before p. bit_or before (bit_xor p.0 p.1)) 0 (zip given.now tag) }
+{
+    given
+        .iter()
+        .zip(&tag)
+        .fold(0, |before, (a, b)| before | (a ^ b))
 }

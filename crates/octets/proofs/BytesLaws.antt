@@ -3,15 +3,15 @@
 use mathlib.Core.Path.{◌≡◌, refl, sym, ap, ap₂, ◌∙◌}
 use mathlib.Core.Bool.{Bool, true, false, ◌&&◌, false≢true, and-true, and_assoc}
 use mathlib.Core.List.{List, [], ◌∷◌, ◌++◌, append-nil}
-use Prim.Native.Nat.{ℕ, zero, suc, ◌+◌, ◌<◌, ◌≤◌, min}
+use Prim.Native.Nat.{ℕ, zero, suc, ◌<◌, ◌≤◌, min}
 use native.Mathlib.Nat.{zero-min, min-zero, suc-min-suc, min-eq_left, not-suc-le-zero, le_of_suc-le-suc}
-use native.Mathlib.Numerals.{add-one}
 use native.Mathlib.Omega.{arith}
 use borrow.Author.Tests.{eqb-true, eqb-false, eq-eqb, ne_eqb}
 use lib.Bits.{bit_or, bit_xor, or_add_and, xor_add_and, and_le_l, and_le_r, xor_self}
 use lib.Dec.{eqb}
 use lib.ListN.{length, get_or, take, drop, drop_of_length-le}
-use lib.Seq.{take_all, drop-cons}
+use lib.Seq.{take_all}
+use Rattle.std.specs.List.{fold, zip}
 use Rattle.octets.specs.Bytes.{xored, same}
 use Rattle.octets.proofs.XorLaws.{xor_cancel}
 
@@ -85,16 +85,6 @@ get_or-xored (a ∷ s) [] i hs hk = absurd (not-suc-le-zero hk)
 get_or-xored (a ∷ s) (b ∷ k) zero hs hk = refl
 get_or-xored (a ∷ s) (b ∷ k) (suc i) hs hk = get_or-xored s k i (le_of_suc-le-suc hs) (le_of_suc-le-suc hk)
 
--- what stands past the end of k does not matter
-pub xored-cut : (n : ℕ) (s k : List ℕ) → length k ≤ n → xored (take n s) k ≡ xored s k
-unfolding xored
-xored-cut zero [] k h = refl
-xored-cut zero (a ∷ s) [] h = refl
-xored-cut zero (a ∷ s) (b ∷ k) h = absurd (not-suc-le-zero h)
-xored-cut (suc n) [] k h = refl
-xored-cut (suc n) (a ∷ s) [] h = refl
-xored-cut (suc n) (a ∷ s) (b ∷ k) h = ap {B = List ℕ} (λ r. bit_xor a b ∷ r) (xored-cut n s k (le_of_suc-le-suc h))
-
 or_is_zero : (a b : ℕ) → bit_or a b ≡ 0 → (a ≡ 0) × (b ≡ 0)
 or_is_zero a b e = omega (arith, or_add_and a b, and_le_l a b, and_le_r a b)
 
@@ -112,14 +102,18 @@ gathered d x y = go (eqb d 0) (eqb x y) refl refl
         ne_eqb _ 0 (λ none. eqb-false x y f (xor_is_zero x y (or_is_zero d (bit_xor x y) none).1))
     go false q e f = ne_eqb _ 0 (λ none. eqb-false d 0 e (or_is_zero d (bit_xor x y) none).0)
 
--- comparing from index i on, with the differences before it gathered in d
-pub same_more : (d i : ℕ) (s t : List ℕ) → i < length s → i < length t
-    → (eqb (bit_or d (bit_xor (get_or s i 0) (get_or t i 0))) 0 && same (drop (i + 1) s) (drop (i + 1) t)) ≡ (eqb d 0 && same (drop i s) (drop i t))
+same_folded : (d : ℕ) (s t : List ℕ) → length s ≤ length t
+    → eqb (fold (λ before p. bit_or before (bit_xor p.0 p.1)) d (zip s t)) 0 ≡ (eqb d 0 && same s (take (length s) t))
 unfolding same
-same_more d i s t hs ht =
-    rw (add-one, drop-cons s i 0 hs, drop-cons t i 0 ht, gathered) (and_assoc (eqb d 0) (eqb (get_or s i 0) (get_or t i 0)) _)
+same_folded d [] t h = sym (and-true (eqb d 0))
+same_folded d (a ∷ s) [] h = absurd (not-suc-le-zero h)
+same_folded d (a ∷ s) (b ∷ t) h =
+    same_folded (bit_or d (bit_xor a b)) s t (le_of_suc-le-suc h)
+    ∙ ap (λ (q : Bool). q && same s (take (length s) t)) (gathered d a b)
+    ∙ and_assoc (eqb d 0) (eqb a b) (same s (take (length s) t))
 
--- at the end of both lists only what was gathered counts
-pub same_end : (d i : ℕ) (s t : List ℕ) → length s ≤ i → length t ≤ i → (eqb d 0 && same (drop i s) (drop i t)) ≡ eqb d 0
-unfolding same
-same_end d i s t hs ht = rw (drop_of_length-le s hs, drop_of_length-le t ht) (and-true (eqb d 0))
+-- all differences gathered are zero just if the first list begins the second
+pub same_differences : (s t : List ℕ) {d : ℕ} → d ≡ fold (λ before p. bit_or before (bit_xor p.0 p.1)) 0 (zip s t)
+    → length s ≤ length t
+    → eqb d 0 ≡ same s (take (length s) t)
+same_differences s t gathered h = ap (λ (d : ℕ). eqb d 0) gathered ∙ same_folded 0 s t h

@@ -5,8 +5,8 @@ use mathlib.Core.List.{List, [], ◌∷◌, ◌++◌}
 use Prim.Native.Nat.{ℕ, zero, suc, ◌+◌, ◌≤◌, ◌<◌}
 use native.Mathlib.Nat.{not-suc-le-zero}
 use native.Mathlib.Omega.{arith}
-use lib.ListN.{length, get_or, take, drop, get_or-append, get_or-eq_default}
-use lib.Seq.{drop-cons}
+use lib.ListN.{length, get_or, take, drop, replicate, get_or-append, get_or-eq_default}
+use lib.Seq.{drop-cons, get_or-drop}
 
 -- n elements of s, from element i on, with zeros past its end
 abbrev pub elements : ℕ → List ℕ → ℕ → List ℕ
@@ -38,3 +38,14 @@ pub elements_past : (n : ℕ) (s : List ℕ) (i k : ℕ) → length s ≤ i + k 
 elements_past zero s i k h = refl
 elements_past (suc n) s i zero h = get_or-eq_default s 0 (omega arith)
 elements_past (suc n) s i (suc k) h = elements_past n s (suc i) k (omega arith)
+
+zeros : (n i : ℕ) → get_or {A = ℕ} (replicate n 0) i 0 ≡ 0
+zeros zero i = refl
+zeros (suc n) zero = refl
+zeros (suc n) (suc i) = zeros n i
+
+-- zeros behind a list are what stands past its end
+pub zeros_behind : (s : List ℕ) (k n i : ℕ) → get_or (s ++ drop k (replicate n 0)) i 0 ≡ get_or s i 0
+zeros_behind [] k n i = get_or-drop k (replicate n 0) i 0 ∙ zeros n (k + i)
+zeros_behind (a ∷ s) k n zero = refl
+zeros_behind (a ∷ s) k n (suc i) = zeros_behind s k n i

@@ -4,58 +4,52 @@
 pub mod block;
 
 ghost use Rattle.std.specs.Prelude.{◌≡◌, ◌++◌, ◌≤◌, ◌<◌, ◌^◌, length, drop};
-ghost use Rattle.sbox.specs.Substitution.{Substitutes};
-ghost use Rattle.aes.specs.Cipher.{enciphered_by};
+ghost use Rattle.aes.specs.Under.{enciphered_under};
 ghost use Rattle.hash_field.specs.Element.{value_of};
 ghost use Rattle.pieces.specs.Piece.{iv_of, counter_at, crypted_at, Absorbed};
 
-use aes::encipher_by;
+use aes::Cipher;
 use block::sixteen_of;
-use counter::{crypt, step, xor_into};
-use ghash::{absorb, element_of, hash_bytes};
+use counter::{counter_block, crypt, step, xor_into};
+use ghash::{absorb, hash_bytes};
 use hash_field::Element;
-use octets::{block_from, bytes, least};
 
-// The counter block of mark and number after k blocks of text.
-pub fn counter_at(mark: [u8; 4], number: u64, k: usize) -> [u8; 16]
-    requires { k < 2 ^ 32 }
-    ensures { result ≡ counter_at (iv_of mark number) k }
+// A message's IV: the mark, then the number.
+pub fn iv_of(mark: [u8; 4], number: u64) -> [u8; 12]
+    ensures { result ≡ iv_of mark number }
 {
-    block_from(
-        mark,
-        bytes((number >> 32) as u32),
-        bytes((number % 4294967296) as u32),
-        bytes(((k + 1) % 4294967296) as u32),
-    )
+    let mut iv = [0u8; 12];
+    iv[..4].copy_from_slice(&mark);
+    iv[4..].copy_from_slice(&number.to_be_bytes());
+    iv
+}
+
+// The counter block of an IV after k blocks of text.
+#[tactic(auto, unfolding(crate::specs::Piece::counter_at))]
+pub fn counter_at(iv: [u8; 12], k: usize) -> [u8; 16]
+    requires { k < 2 ^ 32 }
+    ensures { result ≡ counter_at iv k }
+{
+    counter_block(&iv, (k as u32).wrapping_add(1))
 }
 
 // The piece crypted to the front of `out`, where `before` bytes of text went before it.
-pub fn crypt_at(
-    out: &mut [u8],
-    table: &[u8; 256],
-    words: &[u32; 60],
-    rounds: usize,
-    mark: [u8; 4],
-    number: u64,
-    before: usize,
-    piece: &[u8],
-)
-    requires substitutes { Substitutes table.now }
-    requires rounds_bound { (rounds ≤ 14) × (before < 2 ^ 32) }
+pub fn crypt_at(out: &mut [u8], cipher: Cipher, iv: [u8; 12], before: usize, piece: &[u8])
+    requires before_bound { before < 2 ^ 32 }
     requires piece_in_bounds { length piece.now ≤ length out.old }
-    ensures { out.new ≡ crypted_at (enciphered_by words.now rounds) (iv_of mark number) before piece.now ++ drop (length piece.now) out.old }
+    ensures { out.new ≡ crypted_at (enciphered_under cipher.entry) iv before piece.now ++ drop (length piece.now) out.old }
 {
     let held = before % 16;
-    let counter = counter_at(mark, number, before / 16);
+    let counter = counter_at(iv, before / 16);
     if held == 0 {
-        crypt(out, table, words, rounds, counter, piece);
+        crypt(out, cipher, counter, piece);
         return;
     }
     let next = step(counter);
-    let block = encipher_by(table, words, rounds, next);
-    let n = least(16 - held, piece.len());
-    xor_into(out, 0, piece, sixteen_of(&block[held..], b""), n);
-    crypt(&mut out[n..], table, words, rounds, next, &piece[n..]);
+    let block = cipher.encipher(next);
+    let n = (16 - held).min(piece.len());
+    xor_into(&mut out[..n], &piece[..n], &block[held..]);
+    crypt(&mut out[n..], cipher, next, &piece[n..]);
 }
 
 // A hash, and the bytes that wait for the rest of their block.
@@ -74,12 +68,11 @@ pub fn absorb_bytes(h: Element, sum: Element, held: &[u8], more: &[u8]) -> Held
     if held.len() + more.len() < 16 {
         return Held { sum, part: block };
     }
-    let first = absorb(h, sum, element_of(block));
-    let n = 16 - held.len();
-    let rest = &more[n..];
-    let whole = rest.len() / 16 * 16;
+    let first = absorb(h, sum, Element::from(block));
+    let rest = &more[16 - held.len()..];
+    let (whole, part) = rest.split_at(rest.len() / 16 * 16);
     Held {
-        sum: hash_bytes(h, first, &rest[..whole]),
-        part: sixteen_of(&rest[whole..], b""),
+        sum: hash_bytes(h, first, whole),
+        part: sixteen_of(part, b""),
     }
 }

@@ -1,4 +1,4 @@
--- A run, chunk after chunk: what each is answered by stands behind what those before it are answered by, and the machine
+-- A run, chunk after chunk: what each is answered by stands behind what those before it are answered by, and the reader
 -- remembers them all. So what it says at the end is what the whole input asks for.
 use mathlib.Core.Path.{◌≡◌, refl, sym, ap, ap₂, ◌∙◌}
 use mathlib.Core.Bool.{Bool, false, false≢true}
@@ -13,10 +13,10 @@ use Rattle.octets.specs.Bytes.{joined}
 use Rattle.records.specs.Records.{Answering, output_of}
 use Rattle.records.specs.Reading.{more, start, after, written, written_by}
 use Rattle.records.specs.Answers.{Wrote}
-use Rattle.records.specs.Kept.{fresh_machine, last_line}
-use Rattle.records.specs.Remembered.{FieldBuffers, Remembers, bytes_from, Served}
+use Rattle.records.specs.Kept.{at_start, last_line}
+use Rattle.records.specs.Remembered.{HasRoom, Remembers, bytes_from, Served}
 use Rattle.records.specs.Input.{Answered, most_turns, TakenIn, Ended}
-use Rattle.records.specs.declared.machine.Machine.{Machine}
+use Rattle.records.specs.declared.reader.Reader.{Reader}
 use Rattle.records.proofs.AnswerLaws.{wrote_line}
 use Rattle.records.proofs.ChunkLaws.{any_chunks, after-append, written-append}
 use Rattle.records.proofs.ScanLaws.{remembers-start}
@@ -40,24 +40,24 @@ last_more (first ∷ []) chunk = refl
 last_more (first ∷ second ∷ chunks) chunk = last_more (second ∷ chunks) chunk
 
 -- A run that goes on: its chunks are remembered, and the last of them still stands in front of the buffer that it was read into,
--- so that a machine which forgot it would not do, whatever else it remembers.
-pub record Carried (answer : Answering) (turns : ℕ) (buffer : List ℕ) (m : Machine) (key iv ad text : List ℕ) : Type 0 where
+-- so that a reader which forgot it would not do, whatever else it remembers.
+pub record Carried (answer : Answering) (turns : ℕ) (buffer : List ℕ) (r : Reader) : Type 0 where
   pub taken : TakenIn answer turns
-  pub remembers : Remembers m key iv ad text (more (after start (joined taken.chunks)))
+  pub remembers : Remembers r (more (after start (joined taken.chunks)))
   pub latest : take (length (last_of taken.chunks)) buffer ≡ last_of taken.chunks
 
 module _ (answer : Answering) where
-  pub answered_nothing : {m : Machine} {key iv ad text : List ℕ} → Answered answer m key iv ad text [] m key iv ad text
+  pub answered_nothing : {r : Reader} → Answered answer r [] r
   unfolding after written
   answered_nothing = record { handed = []; follows = λ state known. known; answers = λ state known. refl }
 
   -- a service behind what was taken in of its chunk before, and all that it wrote handed out
-  pub answered_then : {m m' m'' : Machine} {key iv ad text key' iv' ad' text' key'' iv'' ad'' text'' out out' : List ℕ}
+  pub answered_then : {r r' r'' : Reader} {out out' : List ℕ}
       {count given : ℕ} (chunk : List ℕ) (at end : ℕ)
-      → Answered answer m key iv ad text (take at chunk) m' key' iv' ad' text'
-      → Served answer m' key' iv' ad' text' chunk at out m'' key'' iv'' ad'' text'' end out' count
+      → Answered answer r (take at chunk) r'
+      → Served answer r' chunk at out r'' end out' count
       → given ≡ length (take count out')
-      → Answered answer m key iv ad text (take end chunk) m'' key'' iv'' ad'' text''
+      → Answered answer r (take end chunk) r''
   answered_then {out' = out'} {count = count} {given = given} chunk at end first next all =
       let part = take at chunk in
       let service = bytes_from chunk at end in
@@ -75,11 +75,11 @@ module _ (answer : Answering) where
             (line ∙ wrote_line (next.writes (after state part) (first.follows state known))));
       }
 
-  -- a run is begun with the machine in front of a record
-  pub carried_start : (buffer key iv ad text : List ℕ) → FieldBuffers key iv ad text
-      → Carried answer most_turns buffer fresh_machine key iv ad text
+  -- a run is begun with a reader in front of a record
+  pub carried_start : (buffer : List ℕ) (r : Reader) → HasRoom r
+      → Carried answer most_turns buffer (at_start r)
   unfolding after written joined last_of
-  carried_start buffer key iv ad text room =
+  carried_start buffer r room =
       record {
         taken =
             record {
@@ -89,14 +89,14 @@ module _ (answer : Answering) where
               counted = refl;
               answers = refl;
             };
-        remembers = remembers-start key iv ad text room;
+        remembers = remembers-start r room;
         latest = refl;
       }
 
-  module _ {turns : ℕ} {m : Machine} {buffer key iv ad text : List ℕ} (was : Carried answer turns buffer m key iv ad text) where
+  module _ {turns : ℕ} {buffer : List ℕ} {r : Reader} (was : Carried answer turns buffer r) where
     -- it goes on with the bytes of one more chunk
-    module _ {m' : Machine} {bytes key' iv' ad' text' : List ℕ}
-        (next : Answered answer m key iv ad text bytes m' key' iv' ad' text') (some : 0 < length bytes) (left : 0 < turns) where
+    module _ {bytes : List ℕ} {r' : Reader}
+        (next : Answered answer r bytes r') (some : 0 < length bytes) (left : 0 < turns) where
       pub taken_then : TakenIn answer (turns - 1)
       taken_then =
           let taken = was.taken in
@@ -114,7 +114,7 @@ module _ (answer : Answering) where
           }
 
       pub carried_then : (read : List ℕ) → take (length bytes) read ≡ bytes
-          → Carried answer (turns - 1) read m' key' iv' ad' text'
+          → Carried answer (turns - 1) read r'
       unfolding taken_then
       carried_then read front =
           let before = was.taken.chunks in
@@ -126,7 +126,7 @@ module _ (answer : Answering) where
           }
 
     -- the input ends, and what remains of it is answered
-    pub ended-whole : {failed : Bool} {before out : List ℕ} {count : ℕ} → Wrote (last_line m) before out count
+    pub ended-whole : {failed : Bool} {before out : List ℕ} {count : ℕ} → Wrote (last_line r) before out count
         → Ended answer turns count failed false out
     unfolding written_by joined
     ended-whole wrote =

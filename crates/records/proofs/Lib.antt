@@ -3,5 +3,4 @@ pub mod ChunkLaws
 pub mod InputLaws
 pub mod ScanLaws
 pub mod ServeLaws
-pub mod TookLaws
 pub mod TurnLaws

@@ -11,7 +11,7 @@ use Rattle.records.specs.Records.{Answering}
 use Rattle.records.specs.Reading.{after, written}
 use Rattle.records.specs.Answers.{Wrote}
 use Rattle.records.specs.Remembered.{bytes_from, Served}
-use Rattle.records.specs.declared.machine.Machine.{Machine}
+use Rattle.records.specs.declared.reader.Reader.{Reader}
 use Rattle.records.proofs.AnswerLaws.{wrote_nothing, wrote_line}
 use Rattle.records.proofs.ChunkLaws.{after-append, written-append}
 
@@ -44,9 +44,9 @@ wrote_then {line} {next} {was} {now} {now'} {count} {extra} first second kept =
           ∙ sym (append_assoc line next (drop (length (line ++ next)) was));
     }
 
-module _ (answer : Answering) {m : Machine} {key iv ad text : List ℕ} (chunk : List ℕ) (at : ℕ) (out : List ℕ) where
+module _ (answer : Answering) {r : Reader} (chunk : List ℕ) (at : ℕ) (out : List ℕ) where
   -- nothing taken in yet
-  pub served_nothing : Served answer m key iv ad text chunk at out m key iv ad text at out 0
+  pub served_nothing : Served answer r chunk at out r at out 0
   unfolding after written
   served_nothing =
       record {
@@ -58,11 +58,11 @@ module _ (answer : Answering) {m : Machine} {key iv ad text : List ℕ} (chunk :
       }
 
   -- a service behind another
-  pub served_then : {m' m'' : Machine} {key' iv' ad' text' key'' iv'' ad'' text'' out' out'' : List ℕ} {mid end count extra : ℕ}
-      → Served answer m key iv ad text chunk at out m' key' iv' ad' text' mid out' count
-      → Served answer m' key' iv' ad' text' chunk mid (drop count out') m'' key'' iv'' ad'' text'' end (drop count out'') extra
+  pub served_then : {r' r'' : Reader} {out' out'' : List ℕ} {mid end count extra : ℕ}
+      → Served answer r chunk at out r' mid out' count
+      → Served answer r' chunk mid (drop count out') r'' end (drop count out'') extra
       → take count out'' ≡ take count out' → count ≤ length out''
-      → Served answer m key iv ad text chunk at out m'' key'' iv'' ad'' text'' end out'' (count + extra)
+      → Served answer r chunk at out r'' end out'' (count + extra)
   served_then {mid = mid} {end = end} first second kept inside =
       let bytes = bytes_then chunk at mid end first.reached second.reached in
       let part = bytes_from chunk at mid in

@@ -5,19 +5,14 @@ use Rattle.octets.specs.Bytes.{joined}
 use Rattle.records.specs.Records.{Answering, output_of}
 use Rattle.records.specs.Reading.{State, more, start, written}
 use Rattle.records.specs.Remembered.{Remembers, Followed}
-use Rattle.records.specs.declared.machine.Machine.{Machine}
+use Rattle.records.specs.declared.reader.Reader.{Reader}
 
--- bytes were taken in and answered: whatever the machine remembered before, it remembers now with these bytes behind it, and what
+-- bytes were taken in and answered: whatever the reader remembered before, it remembers now with these bytes behind it, and what
 -- was handed out is what they are answered by
-pub record Answered
-    (answer : Answering)
-    (m : Machine)
-    (key iv ad text bytes : List ℕ)
-    (m' : Machine)
-    (key' iv' ad' text' : List ℕ) : Type 0 where
+pub record Answered (answer : Answering) (r : Reader) (bytes : List ℕ) (r' : Reader) : Type 0 where
   pub handed : List ℕ
-  pub follows : Followed m key iv ad text bytes m' key' iv' ad' text'
-  pub answers : (state : State) → Remembers m key iv ad text (more state) → handed ≡ written answer state bytes
+  pub follows : Followed r bytes r'
+  pub answers : (state : State) → Remembers r (more state) → handed ≡ written answer state bytes
 
 -- as many turns as a run has
 abbrev pub most_turns : ℕ

@@ -4,7 +4,7 @@ ghost use Rattle.records.specs.Answers.{sealed_line, number_line, Wrote};
 ghost use Rattle.records.specs.Records.{line_feed, bad_line, cut_line};
 ghost use Rattle.records.specs.Kept.{last_line};
 
-use crate::machine::{Machine, remains};
+use crate::reader::Reader;
 use hexadecimal::digits::write_hex;
 
 // `0 `, then the sealed bytes in hex.
@@ -12,28 +12,24 @@ pub fn write_sealed(out: &mut [u8], sealed: &[u8]) -> usize
     requires { length sealed.now * 2 + 3 ≤ length out.old }
     ensures { Wrote (sealed_line sealed.now) out.old out.new result }
 {
-    out[0] = b'0';
-    out[1] = b' ';
-    write_hex(out, 2, sealed);
+    out[..2].copy_from_slice(b"0 ");
+    write_hex(&mut out[2..], sealed);
     let end = sealed.len() * 2 + 2;
     out[end] = b'\n';
     end + 1
 }
 
-// A number alone, as that of a refusal.
+// A number alone, as that of a refusal. Its digits are made by hand, since what `write!` writes is known of a `String` alone, which
+// needs a heap.
+#[tactic(auto, unfolding(crate::specs::Answers::number_line))]
 pub fn write_number(out: &mut [u8], n: u8) -> usize
     requires { (n < 100) × (3 ≤ length out.old) }
     ensures { Wrote (number_line n) out.old out.new result }
 {
     if n < 10 {
-        out[0] = b'0' + n;
-        out[1] = b'\n';
-        return 2;
+        return write_line(out, &[b'0' + n, b'\n']);
     }
-    out[0] = b'0' + n / 10;
-    out[1] = b'0' + n % 10;
-    out[2] = b'\n';
-    3
+    write_line(out, &[b'0' + n / 10, b'0' + n % 10, b'\n'])
 }
 
 // `bad`, for a record with a line that is not good.
@@ -41,36 +37,27 @@ pub fn write_bad(out: &mut [u8]) -> usize
     requires { 4 ≤ length out.old }
     ensures { Wrote bad_line out.old out.new result }
 {
-    write_word(out, b'b', b'a', b'd')
+    write_line(out, b"bad\n")
 }
 
-// What is written where the input ends: `cut`, or nothing if it ends with a whole record.
-pub fn write_last(out: &mut [u8], m: Machine) -> usize
+// What is written where the input ends: `cut`, for what remains without its four line feeds, or nothing if it ends with a whole
+// record.
+pub fn write_last(out: &mut [u8], reader: &Reader) -> usize
     requires { 4 ≤ length out.old }
-    ensures { Wrote (last_line m) out.old out.new result }
+    ensures { Wrote (last_line reader.now) out.old out.new result }
 {
-    if remains(m) {
-        return write_cut(out);
+    if reader.remains() {
+        write_line(out, b"cut\n")
+    } else {
+        0
     }
-    0
 }
 
-// `cut`, for what remains of an input without its four line feeds.
-fn write_cut(out: &mut [u8]) -> usize
-    requires { 4 ≤ length out.old }
-    ensures { Wrote cut_line out.old out.new result }
+// A line that stands already.
+fn write_line(out: &mut [u8], line: &[u8]) -> usize
+    requires { length line.now ≤ length out.old }
+    ensures { Wrote line.now out.old out.new result }
 {
-    write_word(out, b'c', b'u', b't')
-}
-
-// A word of three letters.
-fn write_word(out: &mut [u8], first: u8, second: u8, third: u8) -> usize
-    requires { 4 ≤ length out.old }
-    ensures { Wrote (first ∷ second ∷ third ∷ line_feed ∷ []) out.old out.new result }
-{
-    out[0] = first;
-    out[1] = second;
-    out[2] = third;
-    out[3] = b'\n';
-    4
+    out[..line.len()].copy_from_slice(line);
+    line.len()
 }

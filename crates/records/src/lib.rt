@@ -2,4 +2,4 @@
 #![tactic(auto)]
 
 pub mod answers;
-pub mod machine;
+pub mod reader;

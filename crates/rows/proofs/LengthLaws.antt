@@ -9,7 +9,9 @@ use native.Mathlib.Omega.{arith}
 use borrow.Author.Tests.{ltb-false, eqb-true}
 use lib.Dec.{eqb, ltb}
 use lib.ListN.{length}
-use Rattle.answer.proofs.DoneLaws.{was_refused, was_done}
+use Rattle.answer.specs.declared.Refusal.{Refusal}
+use Rattle.answer.specs.Number.{refusal_number}
+use Rattle.answer.proofs.NumberLaws.{refusal_numbered}
 use Rattle.rows.specs.Passed.{Passed}
 use Rattle.rows.specs.Rows.{longest_iv, longest_ad, longest_text, key_bad, iv_bad, tag_bad, lowest, length_rows, seal_rows, open_length_rows}
 use Rattle.rows.proofs.RowsLaws.{lowest_none}
@@ -28,16 +30,11 @@ second_answers n [] b none = rw zero-add
 second_answers n (true ∷ a) b none = absurd (omega arith)
 second_answers n (false ∷ a) b none = second_answers (suc n) a b none ∙ ap (λ m. lowest m b) (add-suc (length a) (suc n) ∙ sym (suc-add (length a) (suc n)))
 
-module _ (rows more : List Bool) {a : ℕ} {done : Bool} (answer : a ≡ lowest 1 rows) (is-done : done ≡ eqb a 0) where
-  -- the shared rows refused: theirs is the answer to all rows
-  pub refused : not done ≡ true → a ≡ lowest 1 (rows ++ more)
-  refused refusing =
-      let some : 0 < lowest 1 rows = omega (arith, was_refused a is-done refusing) in
-      answer ∙ sym (first_answers 1 rows more some)
-
-  -- the shared rows let pass: the others answer
-  pub passed_on : not done ≡ false → lowest 1 (rows ++ more) ≡ lowest (length rows + 1) more
-  passed_on passing = second_answers 0 rows more (was_done (lowest 1 rows) answer is-done passing)
+-- the shared rows refused: theirs is the answer to all rows
+pub refused : (refusal : Refusal) (rows more : List Bool) → refusal_number refusal ≡ lowest 1 rows → refusal_number refusal ≡ lowest 1 (rows ++ more)
+refused refusal rows more answer =
+    let some = refusal_numbered refusal in
+    answer ∙ sym (first_answers 1 rows more (omega arith))
 
 pub key_fits : (n : ℕ) → key_bad n ≡ false → (16 ≤ n) × (n ≤ 32)
 unfolding key_bad

@@ -23,16 +23,22 @@ const TABLE: [u8; 256] = *b"\
     \x8c\xa1\x89\x0d\xbf\xe6\x42\x68\x41\x99\x2d\x0f\xb0\x54\xbb\x16";
 
 // The substitution table, for a caller to keep and to lend: a constant is written out anew at each place that reads it.
-pub fn table() -> [u8; 256]
-    ensures { Substitutes result }
-{
-    TABLE
+#[derive(Clone, Copy)]
+pub struct Table {
+    pub entries: [u8; 256],
+    ghost follows_the_rule: { Substitutes entries },
 }
 
-// What a table that follows the rule has for b (FIPS 197: SBOX).
-pub fn substitute(table: &[u8; 256], b: u8) -> u8
-    requires { Substitutes table.now }
-    ensures { result ≡ substituted b }
-{
-    table[b as usize]
+impl Table {
+    // The table of the cipher.
+    pub fn new() -> Self {
+        Table { entries: TABLE }
+    }
+
+    // The table's entry for b (FIPS 197: SBOX).
+    pub fn substitute(&self, b: u8) -> u8
+        ensures { result ≡ substituted b }
+    {
+        self.entries[b as usize]
+    }
 }

@@ -4,7 +4,7 @@ use Rattle.bench_records.proofs.CountLaws.{Counting}
 use Rattle.bench_records.proofs.bench_records.Given as goal
 
 abbrev pub invariant-loop-at : goal.invariant-loop-at
-invariant-loop-at l = Counting l.machine l.key l.iv l.ad l.text l.input l.count l.at
+invariant-loop-at l = Counting l.reader l.input l.count l.at
 
 abbrev pub decreases-loop-at : goal.decreases-loop-at
 decreases-loop-at l = length l.input - l.at

@@ -1,38 +1,33 @@
--- One block more goes over to the hash; past the end of s none is left.
-use Rattle.std.proofs.Common.{ℕ, ◌+◌, sym, ap, ◌∙◌, arith, drop}
+-- What is left behind the whole blocks fills one more with zeros, if there is any.
+use Rattle.std.proofs.Common.{rules, ◌≡◌, ◌<◌, ℕ, ◌++◌, List, sym, ap, ◌∙◌, arith, drop, length, replicate}
 use Rattle.std.specs.Int.Bits.{bit_xor}
-use Rattle.octets.specs.Block.{number_at, padded}
+use Rattle.octets.specs.Block.{number_at}
+use Rattle.octets.proofs.BlockLaws.{number_filled}
 use Rattle.hash_field.specs.Element.{value_of}
 use Rattle.hash_field.specs.Field.{product}
-use Rattle.ghash.specs.Hash.{hash_from}
-use Rattle.ghash.proofs.HashLaws.{hash_block, hash_end}
+use Rattle.ghash.proofs.HashLaws.{hash_rest, hash_none, hash_last}
 use Rattle.ghash.proofs.hash_bytes.Goals as goal
 
-pub loop-at-preserved : goal.loop-at-preserved
-loop-at-preserved c =
+pub returns-then-is_empty : goal.returns-then-is_empty
+returns-then-is_empty c =
     let h = value_of c.args.h in
-    let s = c.args.s.now in
-    let state = value_of c.loop-at.state in
-    let at = c.loop-at.at in
-    let block = ap (λ (x : ℕ). product (bit_xor state x) h) c.element_at.ensures in (
-      omega arith,
-      ap (λ (r : ℕ). hash_from h r (padded (drop (at + 16) s))) (c.absorb-next.ensures ∙ block)
-          ∙ sym (hash_block h state s at (omega arith))
-          ∙ c.loop-at.invariant.1,
-    )
-
-pub returns-then-at-s : goal.returns-then-at-s
-returns-then-at-s c =
-    let h = value_of c.args.h in
-    let s = c.args.s.now in
-    let state = value_of c.loop-at.state in
-    let at = c.loop-at.at in
-    let block = ap (λ (x : ℕ). product (bit_xor state x) h) c.element_at-then-at-s.ensures in
-    c.absorb.ensures ∙ block ∙ sym (hash_end h (product (bit_xor state (number_at s at)) h) s (at + 16) (omega arith))
-    ∙ sym (hash_block h state s at (omega arith))
-    ∙ c.loop-at.invariant.1
+    let state = value_of c.loop-block.state in
+    let chunks = c.as_chunks.ensures in
+    let rest = c.as_chunks.result.1.now in
+    let none : length rest ≡ 0 = search rules in
+    sym (hash_none h state rest none)
+    ∙ hash_rest h (value_of c.args.sum) state c.args.s.now _ chunks.front chunks.back c.loop-block-test.false c.loop-block.invariant
 
 pub returns : goal.returns
 returns c =
-    let state = value_of c.loop-at.state in
-    sym (hash_end (value_of c.args.h) state c.args.s.now c.loop-at.at (omega arith)) ∙ c.loop-at.invariant.1
+    let h = value_of c.args.h in
+    let state = value_of c.loop-block.state in
+    let chunks = c.as_chunks.ensures in
+    let rest = c.as_chunks.result.1.now in
+    let some : 0 < length rest = search rules in
+    let block = c.from-2.ensures
+    ∙ ap (λ (t : List ℕ). number_at (t ++ drop (length rest) (replicate 16 0)) 0) c.copy_from_slice.ensures.after
+    ∙ number_filled rest (length rest) 16 in
+    c.absorb.ensures ∙ ap (λ (x : ℕ). product (bit_xor state x) h) block
+    ∙ sym (hash_last h state rest some (omega (arith, chunks.back_len)))
+    ∙ hash_rest h (value_of c.args.sum) state c.args.s.now _ chunks.front chunks.back c.loop-block-test.false c.loop-block.invariant

@@ -7,5 +7,5 @@ use Rattle.message.proofs.message_begun.Goals as goal
 pub returns : goal.returns
 unfolding value_of
 returns c =
-    let sum = c.hash_bytes-sum in
+    let sum = c.hash_bytes in
     rw (element_is sum.result (search (rules, sum.type_inv)) sum.ensures)

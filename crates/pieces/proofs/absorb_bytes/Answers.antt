@@ -10,9 +10,9 @@ use lib.ListN.{length, take, drop, length-append}
 use lib.Seq.{drop-append-add}
 use Rattle.octets.specs.Block.{number_at, padded}
 use Rattle.hash_field.specs.Field.{product}
-use Rattle.hash_field.specs.Element.{value_of, element_of}
+use Rattle.hash_field.specs.Element.{value_of}
 use Rattle.ghash.specs.Hash.{hash_from}
-use Rattle.hash_field.proofs.ElementLaws.{element_value}
+use Rattle.hash_field.proofs.ElementLaws.{element_is}
 use Rattle.pieces.specs.Piece.{sixteen, sum_after, part_after}
 use Rattle.pieces.proofs.HeldLaws.{sum_short, part_short, sum_fill, part_fill}
 use Rattle.pieces.proofs.absorb_bytes.Goals as goal
@@ -27,18 +27,19 @@ behind held more short =
     ap (λ (n : ℕ). drop n (held ++ more)) at
     ∙ drop-append-add held more (16 - length held) ∙ sym (part_to_end more (16 - length held))
 
-hashed-fill : (h sum first : ℕ) (s rest : List ℕ) → 16 ≤ length s → drop 16 s ≡ rest
-    → first ≡ product (bit_xor sum (number_at (sixteen s) 0)) h
-    → hash_from h first (padded (take (length rest / 16 * 16) rest)) ≡ sum_after h sum s
-hashed-fill h sum first s rest long left added =
-    ap₂ (λ (a : ℕ) (r : List ℕ). hash_from h a (padded (take (length r / 16 * 16) r))) added (sym left)
-    ∙ sym (sum_fill h sum s long)
+module _ (s rest : List ℕ) (long : 16 ≤ length s) (left : drop 16 s ≡ rest) where
+  hashed-fill : (h sum : ℕ) {first : ℕ} {whole : List ℕ} → first ≡ product (bit_xor sum (number_at (sixteen s) 0)) h
+      → whole ≡ take (length rest / 16 * 16) rest
+      → hash_from h first (padded whole) ≡ sum_after h sum s
+  hashed-fill h sum {first} {whole} added blocks =
+      ap₂ (λ (a : ℕ) (r : List ℕ). hash_from h a (padded r)) added
+      (blocks ∙ ap (λ (r : List ℕ). take (length r / 16 * 16) r) (sym left))
+      ∙ sym (sum_fill h sum s long)
 
-held-fill : (s rest : List ℕ) → 16 ≤ length s → drop 16 s ≡ rest
-    → sixteen (take (length rest - length rest / 16 * 16) (drop (length rest / 16 * 16) rest) ++ []) ≡ part_after s
-held-fill s rest long left =
-    ap sixteen (append-nil _ ∙ part_to_end rest (length rest / 16 * 16))
-    ∙ ap (λ (r : List ℕ). sixteen (drop (length r / 16 * 16) r)) (sym left) ∙ sym (part_fill s long)
+  held-fill : {part : List ℕ} → part ≡ drop (length rest / 16 * 16) rest → sixteen (part ++ []) ≡ part_after s
+  held-fill {part} behind =
+      ap sixteen (append-nil part ∙ behind ∙ ap (λ (r : List ℕ). drop (length r / 16 * 16) r) (sym left))
+      ∙ sym (part_fill s long)
 
 pub returns-then-held-more-lt16 : goal.returns-then-held-more-lt16
 returns-then-held-more-lt16 c =
@@ -50,7 +51,7 @@ returns-then-held-more-lt16 c =
     let short : length s < 16 = omega arith in
     let low : sum.low < 2 ^ 64 = search rules in
     record {
-      sum = sym (ap element_of (sum_short (value_of c.args.h) (value_of sum) s short) ∙ element_value sum low);
+      sum = element_is sum low (sym (sum_short (value_of c.args.h) (value_of sum) s short));
       part = c.sixteen_of-block.ensures ∙ sym (part_short s short);
     }
 
@@ -70,8 +71,8 @@ returns c =
     let first : value_of c.absorb-first.result ≡ product (bit_xor sum (number_at (sixteen s) 0)) h =
     c.absorb-first.ensures
     ∙ ap (λ (x : ℕ). product (bit_xor sum x) h)
-    (c.element_of.ensures ∙ ap (λ (t : List ℕ). number_at t 0) c.sixteen_of-block.ensures) in
+    (c.from.ensures ∙ ap (λ (t : List ℕ). number_at t 0) c.sixteen_of-block.ensures) in
     record {
-      sum = sym (element_value hashed.result low) ∙ ap element_of (hashed.ensures ∙ hashed-fill _ _ _ s rest long left first);
-      part = c.sixteen_of.ensures ∙ held-fill s rest long left;
+      sum = element_is hashed.result low (hashed.ensures ∙ hashed-fill s rest long left h sum first c.split_at.ensures.front);
+      part = c.sixteen_of.ensures ∙ held-fill s rest long left c.split_at.ensures.back;
     }

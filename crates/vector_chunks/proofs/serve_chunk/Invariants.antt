@@ -7,8 +7,7 @@ use Rattle.vector_chunks.proofs.serve_chunk.Given as goal
 
 abbrev pub invariant-loop-i : goal.invariant-loop-i
 invariant-loop-i l =
-    Served answer_line l.fn.m l.fn.key l.fn.iv l.fn.ad l.fn.text l.chunk l.at l.fn.out l.machine l.key l.iv l.ad l.text l.i l.out
-    l.count
+    Served answer_line l.fn.reader l.chunk l.at l.fn.out l.reader l.i l.out l.count
     × ((l.at < l.i) ⊎ (l.count ≡ 0))
 
 abbrev pub decreases-loop-i : goal.decreases-loop-i

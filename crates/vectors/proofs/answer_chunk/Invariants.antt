@@ -7,9 +7,7 @@ use Rattle.vectors.proofs.answer_chunk.Given as goal
 
 abbrev pub invariant-loop-at : goal.invariant-loop-at
 invariant-loop-at g l =
-    (length l.out ≡ length l.fn.out)
-    × (l.at ≤ length l.chunk)
-    × Answered answer_line l.fn.m l.fn.key l.fn.iv l.fn.ad l.fn.text (take l.at l.chunk) l.machine l.key l.iv l.ad l.text
+    (length l.out ≡ length l.fn.out) × (l.at ≤ length l.chunk) × Answered answer_line l.fn.reader (take l.at l.chunk) l.reader
 
 abbrev pub decreases-loop-at : goal.decreases-loop-at
 decreases-loop-at g l = length l.chunk - l.at

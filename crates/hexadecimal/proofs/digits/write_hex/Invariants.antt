@@ -1,11 +1,7 @@
--- `hexadecimal::digits::write_hex` meets its contract. The invariant: the digits of the first i bytes stand in the output.
-use Rattle.std.proofs.Common.{◌≡◌, ◌-◌, ◌*◌, ◌≤◌, length}
-use Rattle.std.proofs.Math.Seq.{paste}
+-- `hexadecimal::digits::write_hex` meets its contract. The invariant: the digits of the first i bytes stand in front of the output.
+use Rattle.std.proofs.Common.{◌≡◌, ◌*◌, ◌++◌, take, drop}
 use Rattle.hexadecimal.specs.Hex.{encoded}
 use Rattle.hexadecimal.proofs.digits.write_hex.Given as goal
 
 abbrev pub invariant-loop-i : goal.invariant-loop-i
-invariant-loop-i l = (l.i ≤ length l.bytes) × (l.out ≡ paste l.fn.out l.at (encoded l.bytes) (l.i * 2))
-
-abbrev pub decreases-loop-i : goal.decreases-loop-i
-decreases-loop-i l = length l.bytes - l.i
+invariant-loop-i l = l.out ≡ take (l.i * 2) (encoded l.bytes) ++ drop (l.i * 2) l.fn.out
