@@ -14,7 +14,7 @@ pub fn digit_value(b: u8) -> Option<u8>
     (b.is_ascii_digit() | small | capital).then_some(b % 16 + b / 64 * 9)
 }
 
-// The digit of n, in lower case.
+// The digit of n, in lower case. `char::from_digit` gives an `Option` of a `char`, and what is written are bytes.
 #[tactic(auto, unfolding(crate::specs::Hex::hex_digit))]
 pub fn hex_digit(n: u8) -> u8
     requires { n < 16 }
