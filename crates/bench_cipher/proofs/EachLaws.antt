@@ -1,6 +1,7 @@
 -- Blocks enciphered where they stand, one after the other: what is done in front of the place reached, and what is still to come
 -- behind it, make the whole.
-use Rattle.std.proofs.Common.{◌≡◌, ℕ, suc, ◌+◌, ◌-◌, ◌/◌, ◌≤◌, ◌<◌, List, ◌++◌, length, take, drop, ap, ap₂, sym, ◌∙◌, append_assoc, length-drop, take_all, take-append-drop, drop-drop, le_of_eq, arith}
+use Rattle.std.proofs.Common.{◌≡◌, ℕ, suc, ◌+◌, ◌-◌, ◌/◌, ◌≤◌, ◌<◌, List, ◌++◌, length, take, drop, ap, ap₂, sym, ◌∙◌}
+use Rattle.std.proofs.Common.{append_assoc, length-drop, take_all, take-append-drop, drop-drop, le_of_eq, arith}
 use borrow.Rule.Slice.PartMut.{put_mid}
 use Rattle.std.proofs.Math.Seq.{take-paste, drop-paste, length-paste}
 use Rattle.std.proofs.lemmas.Slice.{put_mid-paste}

@@ -1,5 +1,6 @@
 -- What is kept of a line of hex while it is read, beside the bytes that its digits made so far.
-use Rattle.std.specs.Prelude.{◌≡◌, Option, Some, None, is_some, is_none, unwrap_or, Bool, true, false, ◌&&◌, cond, List, [], ◌∷◌, ℕ, ◌+◌, ◌*◌, ◌/◌, ◌%◌, ◌≤◌, leb, ltb, length, take, set}
+use Rattle.std.specs.Prelude.{◌≡◌, Option, Some, None, is_some, is_none, unwrap_or, Bool, true, false, ◌&&◌, cond}
+use Rattle.std.specs.Prelude.{List, [], ◌∷◌, ℕ, ◌+◌, ◌*◌, ◌/◌, ◌%◌, ◌≤◌, leb, ltb, length, take, set}
 use Rattle.hexadecimal.specs.Hex.{digit_value, decoded, all_digits, longest_field, good_line}
 use Rattle.hexadecimal.specs.declared.line.Line.{Line}
 
