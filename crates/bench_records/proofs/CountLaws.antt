@@ -9,11 +9,11 @@ use lib.Dec.{eqb}
 use lib.ListN.{length, drop, drop_of_length-le}
 use Rattle.records.specs.Records.{line_feed}
 use Rattle.records.specs.Reading.{State, in_key, in_iv, in_ad, in_text, Next, more, whole, step, start, scanned, left_of}
-use Rattle.records.specs.Kept.{fresh_reader, at_start, is_whole}
-use Rattle.records.specs.Remembered.{Remembers, Scanned}
+use Rattle.records.specs.Kept.{at_start, is_whole}
+use Rattle.records.specs.Remembered.{HasRoom, Remembers, Scanned}
 use Rattle.records.specs.declared.reader.Reader.{Reader}
 use Rattle.records.proofs.ChunkLaws.{scan_more, left-more, scan_whole, left-whole}
-use Rattle.records.proofs.ScanLaws.{open_lines, whole_lines, fresh_room, remembers-start}
+use Rattle.records.proofs.ScanLaws.{open_lines, whole_lines, remembers-start}
 use Rattle.bench_records.specs.Count.{line_feeds, whole_records}
 
 -- how many lines of a record are ended
@@ -68,11 +68,11 @@ pub record Counting (r : Reader) (input : List ℕ) (count at : ℕ) : Type 0 wh
   pub fewer : count ≤ at
   pub within : at ≤ length input
 
-pub counting_none : (input : List ℕ) → Counting fresh_reader input 0 0
-counting_none input =
+pub counting_none : (r : Reader) → HasRoom r → (input : List ℕ) → Counting (at_start r) input 0 0
+counting_none r room input =
     record {
       state = start;
-      remembers = remembers-start fresh_reader fresh_room;
+      remembers = remembers-start r room;
       feeds = omega arith;
       fewer = omega arith;
       within = omega arith;
@@ -86,7 +86,7 @@ module _ {r r' : Reader} {input : List ℕ} {count at end : ℕ} (scan : Scanned
       (omega (arith, feeds_kept counting.state (drop at input), counting.feeds))
 
   -- no record is whole yet
-  pub counting_on : is_whole r'.stage ≡ false → Counting r' input count end
+  pub counting_on : is_whole r'.progress.stage ≡ false → Counting r' input count end
   counting_on few = go (scanned counting.state (drop at input)) refl
     where
       go : (n : Next) → scanned counting.state (drop at input) ≡ n → Counting r' input count end
@@ -102,7 +102,7 @@ module _ {r r' : Reader} {input : List ℕ} {count at end : ℕ} (scan : Scanned
           absurd (false≢true (sym few ∙ whole_lines (rw e at (scan.remembers counting.state counting.remembers))))
 
   -- a record is whole
-  pub counting_whole : is_whole r'.stage ≡ true → Counting (at_start r') input (count + 1) end
+  pub counting_whole : is_whole r'.progress.stage ≡ true → Counting (at_start r') input (count + 1) end
   counting_whole four = go (scanned counting.state (drop at input)) refl
     where
       go : (n : Next) → scanned counting.state (drop at input) ≡ n → Counting (at_start r') input (count + 1) end

@@ -6,8 +6,8 @@ ghost use Rattle.bench_records.specs.Count.{whole_records};
 
 use records::reader::Reader;
 
-// How many whole records the input has. What the fields' buffers hold at its end is copied to lent ones, since stores to an array
-// that nobody reads would be left out. A scan says how far it went, so that the loop is no `for`.
+// How many whole records the input has. The buffers are lent, since stores to an array that nobody reads would be left out. A scan
+// says how far it went, so that the loop is no `for`.
 #[unsafe(no_mangle)]
 pub extern "C" fn bench_records(
     key: &mut [u8; 4096],
@@ -18,7 +18,7 @@ pub extern "C" fn bench_records(
 ) -> usize
     ensures { result ≡ whole_records input.now }
 {
-    let mut reader = Reader::new();
+    let mut reader = Reader::new(key, iv, ad, text);
     let mut count = 0;
     let mut at = 0;
     while at < input.len() {
@@ -28,9 +28,5 @@ pub extern "C" fn bench_records(
             count += 1;
         }
     }
-    *key = reader.key.bytes;
-    *iv = reader.iv.bytes;
-    *ad = reader.ad.bytes;
-    *text = reader.text.bytes;
     count
 }

@@ -29,12 +29,18 @@ xored_more out₀ text block out i in-out in_text in_block so_far =
 
 -- and then all are
 pub xored_all : (out₀ text block out : List ℕ) (i : ℕ) → out ≡ take i (xored text block) ++ drop i out₀
-    → length out₀ ≡ length text → length text ≤ length block → length text ≤ i
-    → out ≡ xored text block
-xored_all out₀ text block out i so_far same room end =
+    → length text ≤ length block → i ≡ length text
+    → out ≡ xored text block ++ drop (length text) out₀
+xored_all out₀ text block out i so_far room end =
     so_far
-    ∙ ap₂ (λ (a b : List ℕ). a ++ b) (take_all i _ (rw (length-xored_le text block room) (omega arith))) (drop_of_length-le out₀ (omega arith))
-    ∙ append-nil (xored text block)
+    ∙ ap₂ (λ (a b : List ℕ). a ++ b) (take_all i _ (rw (length-xored_le text block room) (omega arith))) (ap (λ n. drop n out₀) end)
+
+-- where the output has no more bytes than the text, nothing stands behind
+pub xored_only : (out₀ text block : List ℕ) {out : List ℕ} → out ≡ xored text block ++ drop (length text) out₀
+    → length out₀ ≤ length text
+    → out ≡ xored text block
+xored_only out₀ text block wrote few =
+    wrote ∙ ap (λ (s : List ℕ). xored text block ++ s) (drop_of_length-le out₀ few) ∙ append-nil (xored text block)
 
 -- out₀ was the buffer, out is it now; `at` bytes of the text are crypted, the last of them by the block `counter`
 pub record Reached (e : List ℕ → List ℕ) (j text out₀ counter out : List ℕ) (at : ℕ) : Type 0 where

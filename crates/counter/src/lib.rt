@@ -47,12 +47,12 @@ pub fn crypt(out: &mut [u8], cipher: Cipher, j: [u8; 16], text: &[u8])
     }
 }
 
-// The text, xored with the front of the block, written to `out`.
+// The text, xored with the front of the block, written to the front of `out`.
 #[tactic(auto, using(crate::proofs::CryptLaws::xored_more))]
 pub fn xor_into(out: &mut [u8], text: &[u8], block: &[u8])
-    requires out_length { length out.old ≡ length text.now }
-    requires text_in_bounds { length text.now ≤ length block.now }
-    ensures { out.new ≡ xored text.now block.now }
+    requires text_in_bounds { length text.now ≤ length out.old }
+    requires text_in_block { length text.now ≤ length block.now }
+    ensures { out.new ≡ xored text.now block.now ++ drop (length text.now) out.old }
 {
     // By index: of what is written through `iter_mut` and `zip` a proof knows no byte.
     for i in 0..text.len() {

@@ -6,10 +6,10 @@ use native.Mathlib.Numerals.{add-one}
 use native.Mathlib.Omega.{arith}
 use lib.Bits.{bit_xor}
 use lib.ListN.{length, get_or, take, drop, length-drop, take-append-drop, drop_of_length-le}
-use lib.Seq.{drop-cons, length-take-le}
+use lib.Seq.{drop-cons, drop-drop, length-take-le}
 use Rattle.std.specs.Simd.{first_chunks}
 use Rattle.octets.specs.Block.{number_at, blocks, blocks_for, padded}
-use Rattle.octets.proofs.BlockLaws.{number-front, blocks-append, padded-nil, padded-cons}
+use Rattle.octets.proofs.BlockLaws.{number-drop, number-front, blocks-append, padded-nil, padded-cons}
 use Rattle.hash_field.specs.Field.{product}
 use Rattle.ghash.specs.Hash.{hash_from}
 
@@ -37,6 +37,15 @@ hash_next h sum s i below =
     let more = product (bit_xor sum (number_at (get_or s i []) 0)) h in
     ap (λ (k : ℕ). hash_from h more (numbers (drop k s))) (add-one i)
     ∙ ap (λ (t : List (List ℕ)). hash_from h sum (numbers t)) (sym (drop-cons s i [] below))
+
+-- What is left of a list from i on begins with the block at i.
+pub hash_block : (h sum : ℕ) (s : List ℕ) (i : ℕ) → i < length s
+    → hash_from h sum (padded (drop i s)) ≡ hash_from h (product (bit_xor sum (number_at s i)) h) (padded (drop (i + 16) s))
+unfolding hash_from
+hash_block h sum s i below =
+    let left : 0 < length (drop i s) = simp length-drop (omega arith) in
+    ap (hash_from h sum) (padded-cons (drop i s) left)
+    ∙ ap₂ (λ (x : ℕ) (t : List ℕ). hash_from h (product (bit_xor sum x) h) (padded t)) (number-drop s i) (drop-drop 16 i s)
 
 -- Chunks of sixteen bytes are the first blocks.
 chunks-blocks : (n : ℕ) (s : List ℕ) → n * 16 ≤ length s → numbers (first_chunks 16 n s) ≡ blocks n s

@@ -3,14 +3,18 @@
 use mathlib.Core.Path.{◌≡◌, refl, sym, ap, ap₂, ◌∙◌}
 use mathlib.Core.List.{List, [], ◌∷◌, ◌++◌}
 use Prim.Native.Nat.{ℕ, zero, suc, ◌+◌, ◌-◌, ◌*◌, ◌/◌, ◌%◌, ◌^◌, ◌≤◌, ◌<◌}
-use native.Mathlib.Nat.{zero-add}
+use native.Mathlib.Nat.{add_assoc, add-zero, zero-add}
 use native.Mathlib.Omega.{arith}
 use lib.ListN.{length, take, drop, replicate, length-drop, take-append-drop}
-use lib.Seq.{length-take-le, drop-append-le, drop-drop}
-use lib.Pow.{shr-shr, mod-pow-add}
+use lib.Seq.{get_or-drop, length-take-le, drop-append-le, drop-drop}
+use lib.Pow.{high, low, shr-shr, field, mod-mod-pow, mod-pow-add}
 use Rattle.octets.specs.Word.{word_at, bytes_of}
-use Rattle.octets.specs.Block.{number_at, blocks_for, blocks, padded}
+use Rattle.octets.specs.Block.{number_at, block_bytes, blocks_for, blocks, padded}
 use Rattle.octets.proofs.ElementsLaws.{elements_front, zeros_behind}
+
+-- A block at an index is the first one of what stands there.
+pub number-drop : (s : List ℕ) (i : ℕ) → number_at (drop i s) 0 ≡ number_at s i
+number-drop s i = simp (get_or-drop, add_assoc, add-zero)
 
 -- Nothing has no padding block.
 pub padded-nil : padded [] ≡ []
@@ -63,6 +67,33 @@ padded-whole n s h =
     ap (λ (k : ℕ). blocks k (take (n * 16) s)) count
     ∙ sym (blocks-front n (take (n * 16) s) (drop (n * 16) s) (omega arith))
     ∙ ap (blocks n) (take-append-drop (n * 16) s)
+
+-- The bytes of a word are those of its 32 low bits.
+pub bytes_low : (w : ℕ) → bytes_of (w % 2 ^ 32) ≡ bytes_of w
+bytes_low w =
+    let a : w % 2 ^ 32 / 2 ^ 24 % 256 ≡ w / 2 ^ 24 % 256 = omega arith in
+    let b : w % 2 ^ 32 / 2 ^ 16 % 256 ≡ w / 2 ^ 16 % 256 = omega arith in
+    let c : w % 2 ^ 32 / 2 ^ 8 % 256 ≡ w / 2 ^ 8 % 256 = omega arith in
+    let d : w % 2 ^ 32 % 256 ≡ w % 256 = omega arith in
+    rw (a, b, c, d)
+
+-- The bytes of a block are those of the four words of its halves.
+pub block-bytes : (h l : ℕ) → l < 2 ^ 64
+    → block_bytes (h * 2 ^ 64 + l) ≡ bytes_of (h / 2 ^ 32) ++ bytes_of (h % 2 ^ 32) ++ bytes_of (l / 2 ^ 32) ++ bytes_of (l % 2 ^ 32)
+unfolding block_bytes
+block-bytes h l below =
+    let n = h * 2 ^ 64 + l in
+    let upper = high h 64 below in
+    let lower = low h 64 below in
+    ap₂ ◌++◌ (ap bytes_of (sym (shr-shr n 64 32) ∙ ap (λ (x : ℕ). x / 2 ^ 32) upper))
+    (ap₂ ◌++◌ (ap bytes_of upper ∙ sym (bytes_low h))
+    (ap₂ ◌++◌ (sym (bytes_low (n / 2 ^ 32)) ∙ ap bytes_of (sym (field n 32 32) ∙ ap (λ (x : ℕ). x / 2 ^ 32) lower))
+    (sym (bytes_low n) ∙ ap bytes_of (sym (mod-mod-pow n 32 32) ∙ ap (λ (x : ℕ). x % 2 ^ 32) lower))))
+
+-- A number has sixteen bytes.
+pub length-block : (n : ℕ) → length (block_bytes n) ≡ 16
+unfolding block_bytes
+length-block n = refl
 
 -- j digits and the byte below them are j + 8 digits
 byte_more : (w j k : ℕ) → w / 2 ^ (k + 8) % 2 ^ j * 2 ^ 8 + w / 2 ^ k % 2 ^ 8 ≡ w / 2 ^ k % 2 ^ (j + 8)

@@ -85,6 +85,16 @@ get_or-xored (a ∷ s) [] i hs hk = absurd (not-suc-le-zero hk)
 get_or-xored (a ∷ s) (b ∷ k) zero hs hk = refl
 get_or-xored (a ∷ s) (b ∷ k) (suc i) hs hk = get_or-xored s k i (le_of_suc-le-suc hs) (le_of_suc-le-suc hk)
 
+-- what stands past the end of k does not matter
+pub xored-cut : (n : ℕ) (s k : List ℕ) → length k ≤ n → xored (take n s) k ≡ xored s k
+unfolding xored
+xored-cut zero [] k h = refl
+xored-cut zero (a ∷ s) [] h = refl
+xored-cut zero (a ∷ s) (b ∷ k) h = absurd (not-suc-le-zero h)
+xored-cut (suc n) [] k h = refl
+xored-cut (suc n) (a ∷ s) [] h = refl
+xored-cut (suc n) (a ∷ s) (b ∷ k) h = ap {B = List ℕ} (λ r. bit_xor a b ∷ r) (xored-cut n s k (le_of_suc-le-suc h))
+
 or_is_zero : (a b : ℕ) → bit_or a b ≡ 0 → (a ≡ 0) × (b ≡ 0)
 or_is_zero a b e = omega (arith, or_add_and a b, and_le_l a b, and_le_r a b)
 

@@ -7,16 +7,15 @@ use Prim.Native.Nat.{ℕ, suc, ◌/◌, ◌≤◌, zero-le, min}
 use native.Mathlib.Omega.{arith}
 use lib.Dec.{eqb-suc-zero}
 use lib.ListN.{length, drop}
-use Rattle.std.specs.Prelude.{unwrap_or}
+use Rattle.std.specs.Prelude.{Option, unwrap_or}
 use Rattle.hexadecimal.specs.Hex.{decoded, good_line, longest_field}
-use Rattle.hexadecimal.specs.Line.{fitting, line_of, pending}
+use Rattle.hexadecimal.specs.Line.{Counted, fitting, line_of, pending}
 use Rattle.records.specs.Records.{Answering, bad_line, cut_line, cut_of, answer_to}
 use Rattle.records.specs.Reading.{State, in_key, in_iv, in_ad, in_text, Next, more, whole, onward, said, after, written, ending}
 use Rattle.records.specs.Reading.{scanned}
 use Rattle.records.specs.Answers.{Wrote}
 use Rattle.records.specs.Kept.{at_start, is_whole, all_good, field_bytes, begun, remaining, last_line}
-use Rattle.records.specs.Remembered.{Remembers, Scanned, bytes_from, Served, Holds}
-use Rattle.records.specs.declared.reader.Field.{Field}
+use Rattle.records.specs.Remembered.{Remembers, Scanned, bytes_from, Served}
 use Rattle.records.specs.declared.reader.Reader.{Reader}
 use Rattle.records.proofs.AnswerLaws.{wrote_nothing}
 use Rattle.records.proofs.ChunkLaws.{after-taken, written-taken}
@@ -42,9 +41,10 @@ cut_begun (b ∷ l ∷ s) = go (fitting (b ∷ l ∷ s)) refl
     go false e = rw e
 
 -- the bytes of a field whose line is good
-bytes_of_good : {field : Field} {line : List ℕ} → Holds field line → good_line line ≡ true → field_bytes field ≡ decoded line
-bytes_of_good {field} held good =
-    let few : min (unwrap_or field.count 0) longest_field ≡ unwrap_or field.count 0 = omega (arith, held.within) in
+bytes_of_good : {count : Option ℕ} {buffer line : List ℕ} → Counted count buffer line → good_line line ≡ true
+    → field_bytes count buffer ≡ decoded line
+bytes_of_good {count} held good =
+    let few : min (unwrap_or count 0) longest_field ≡ unwrap_or count 0 = omega (arith, held.within) in
     rw few (held.front good)
 
 module _ (answer : Answering) {r : Reader} (k i a t : List ℕ) (known : Remembers r (whole k i a t)) where
@@ -56,7 +56,9 @@ module _ (answer : Answering) {r : Reader} (k i a t : List ℕ) (known : Remembe
   answers_bad bad = rw (sym good_lines ∙ bad)
 
   pub answers-good : all_good r ≡ true
-      → answer_to answer k i a t ≡ answer (field_bytes r.key) (field_bytes r.iv) (field_bytes r.ad) (field_bytes r.text)
+      → answer_to answer k i a t
+      ≡ answer (field_bytes r.progress.key r.key.now) (field_bytes r.progress.iv r.iv.now)
+      (field_bytes r.progress.ad r.ad.now) (field_bytes r.progress.text r.text.now)
   unfolding answer_to
   answers-good good =
       let all = sym good_lines ∙ good in
@@ -106,7 +108,7 @@ module _ (answer : Answering) {r : Reader} {chunk : List ℕ} {at : ℕ} {r' : R
       }
 
   -- no record is whole yet
-  pub served_none : is_whole r'.stage ≡ false → Served answer r chunk at out r' end out 0
+  pub served_none : is_whole r'.progress.stage ≡ false → Served answer r chunk at out r' end out 0
   unfolding onward said
   served_none few = served zero-le go
     where
@@ -115,7 +117,7 @@ module _ (answer : Answering) {r : Reader} {chunk : List ℕ} {at : ℕ} {r' : R
       go (whole k i a t) known = absurd (false≢true (sym few ∙ whole_lines known))
 
   -- a record is whole, and answered
-  pub served_whole : {out' : List ℕ} {count : ℕ} → count ≤ length out' → is_whole r'.stage ≡ true
+  pub served_whole : {out' : List ℕ} {count : ℕ} → count ≤ length out' → is_whole r'.progress.stage ≡ true
       → ((k i a t : List ℕ) → Remembers r' (whole k i a t) → Wrote (answer_to answer k i a t) out out' count)
       → Served answer r chunk at out (at_start r') end out' count
   unfolding onward said

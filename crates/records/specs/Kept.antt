@@ -1,45 +1,34 @@
 -- What the reader of the code keeps of a record, and what one byte makes of it.
-use Rattle.std.specs.Prelude.{Option, Some, None, is_some, unwrap_or, Bool, true, false, not, ◌&&◌, ◌||◌, cond, List, [], ℕ, min, eqb, take, replicate}
+use Rattle.std.specs.Prelude.{Option, Some, None, is_some, unwrap_or, Bool, true, false, not, ◌&&◌, ◌||◌, cond, List, [], ℕ, min, eqb, take}
+use Rattle.std.specs.Borrow.{MutBor}
 use Rattle.hexadecimal.specs.Hex.{longest_field}
 use Rattle.hexadecimal.specs.Line.{fresh_line, fed, stored, count_of}
 use Rattle.records.specs.Records.{line_feed, cut_line}
 use Rattle.hexadecimal.specs.declared.line.Line.{Line}
-use Rattle.records.specs.declared.reader.Field.{Field}
+use Rattle.records.specs.declared.reader.Progress.{Progress}
 use Rattle.records.specs.declared.reader.Reader.{Reader}
 use Rattle.records.specs.declared.reader.Stage.{Stage}
 use Rattle.records.specs.declared.reader.Stage.TheVariants.{Key, Iv, Ad, Text, Whole}
 
--- a field all zero, of which no line is ended
-abbrev pub fresh_field : Field
-fresh_field = record { bytes = replicate 4096 0; count = None }
+-- in front of a record
+abbrev pub no_progress : Progress
+no_progress = record { stage = Key; line = fresh_line; key = None; iv = None; ad = None; text = None }
 
--- a field with another count, or with other bytes
-abbrev pub with_count : Field → Option ℕ → Field
-with_count field count = record { bytes = field.bytes; count = count }
+-- a reader in front of a record, over these buffers
+abbrev pub fresh_reader : MutBor (List ℕ) → MutBor (List ℕ) → MutBor (List ℕ) → MutBor (List ℕ) → Reader
+fresh_reader key iv ad text = record { progress = no_progress; key = key; iv = iv; ad = ad; text = text }
 
-abbrev pub with_bytes : Field → List ℕ → Field
-with_bytes field bytes = record { bytes = bytes; count = field.count }
-
--- the bytes that a field has in front of its buffer, no more than it can have at most
-abbrev pub field_bytes : Field → List ℕ
-field_bytes field = take (min (unwrap_or field.count 0) longest_field) field.bytes
-
--- a reader in front of a record, its buffers all zero
-abbrev pub fresh_reader : Reader
-fresh_reader =
-    record { stage = Key; line = fresh_line; key = fresh_field; iv = fresh_field; ad = fresh_field; text = fresh_field }
+-- a reader that is as far, its buffers as they are
+abbrev pub with_progress : Reader → Progress → Reader
+with_progress r progress = record { progress = progress; key = r.key; iv = r.iv; ad = r.ad; text = r.text }
 
 -- a reader in front of a record, whatever the buffers hold
 abbrev pub at_start : Reader → Reader
-at_start r =
-    record {
-      stage = Key;
-      line = fresh_line;
-      key = with_count r.key None;
-      iv = with_count r.iv None;
-      ad = with_count r.ad None;
-      text = with_count r.text None;
-    }
+at_start r = with_progress r no_progress
+
+-- the bytes that a field has in front of its buffer, no more than it can have at most
+abbrev pub field_bytes : Option ℕ → List ℕ → List ℕ
+field_bytes count buffer = take (min (unwrap_or count 0) longest_field) buffer
 
 -- a record is whole
 abbrev pub is_whole : Stage → Bool
@@ -51,33 +40,36 @@ is_whole Whole = true
 
 -- each line of the record is good
 abbrev pub all_good : Reader → Bool
-all_good r = is_some r.key.count && is_some r.iv.count && is_some r.ad.count && is_some r.text.count
+all_good r = is_some r.progress.key && is_some r.progress.iv && is_some r.progress.ad && is_some r.progress.text
 
 -- the line at hand is ended: its bytes are counted for its field, if it is good
-abbrev pub ended_at : Stage → Reader → Option ℕ → Reader
-ended_at Key r n = record { stage = Iv; line = fresh_line; key = with_count r.key n; iv = r.iv; ad = r.ad; text = r.text }
-ended_at Iv r n = record { stage = Ad; line = fresh_line; key = r.key; iv = with_count r.iv n; ad = r.ad; text = r.text }
-ended_at Ad r n = record { stage = Text; line = fresh_line; key = r.key; iv = r.iv; ad = with_count r.ad n; text = r.text }
-ended_at Text r n = record { stage = Whole; line = fresh_line; key = r.key; iv = r.iv; ad = r.ad; text = with_count r.text n }
-ended_at Whole r n = record { stage = Whole; line = fresh_line; key = r.key; iv = r.iv; ad = r.ad; text = with_count r.text n }
+abbrev pub ended_at : Stage → Progress → Option ℕ → Progress
+ended_at Key p n = record { stage = Iv; line = fresh_line; key = n; iv = p.iv; ad = p.ad; text = p.text }
+ended_at Iv p n = record { stage = Ad; line = fresh_line; key = p.key; iv = n; ad = p.ad; text = p.text }
+ended_at Ad p n = record { stage = Text; line = fresh_line; key = p.key; iv = p.iv; ad = n; text = p.text }
+ended_at Text p n = record { stage = Whole; line = fresh_line; key = p.key; iv = p.iv; ad = p.ad; text = n }
+ended_at Whole p n = record { stage = Whole; line = fresh_line; key = p.key; iv = p.iv; ad = p.ad; text = n }
 
-unfoldable pub line_ended : Reader → Reader
-line_ended r = ended_at r.stage r (count_of r.line)
+unfoldable pub line_ended : Progress → Progress
+line_ended p = ended_at p.stage p (count_of p.line)
 
 -- one byte more for the line at hand, and for the buffer of its field
-abbrev pub more_of : Field → Reader → ℕ → Field
-more_of field r b = with_bytes field (stored r.line b field.bytes)
+abbrev pub more_of : MutBor (List ℕ) → Progress → ℕ → MutBor (List ℕ)
+more_of buffer p b = record buffer { now = stored p.line b buffer.now }
+
+abbrev pub fed_by : Progress → ℕ → Progress
+fed_by p b = record p { line = fed p.line b }
 
 abbrev pub fed_at : Stage → Reader → ℕ → Reader
-fed_at Key r b = record { stage = r.stage; line = fed r.line b; key = more_of r.key r b; iv = r.iv; ad = r.ad; text = r.text }
-fed_at Iv r b = record { stage = r.stage; line = fed r.line b; key = r.key; iv = more_of r.iv r b; ad = r.ad; text = r.text }
-fed_at Ad r b = record { stage = r.stage; line = fed r.line b; key = r.key; iv = r.iv; ad = more_of r.ad r b; text = r.text }
-fed_at Text r b = record { stage = r.stage; line = fed r.line b; key = r.key; iv = r.iv; ad = r.ad; text = more_of r.text r b }
-fed_at Whole r b = record { stage = r.stage; line = fed r.line b; key = r.key; iv = r.iv; ad = r.ad; text = more_of r.text r b }
+fed_at Key r b = record { progress = fed_by r.progress b; key = more_of r.key r.progress b; iv = r.iv; ad = r.ad; text = r.text }
+fed_at Iv r b = record { progress = fed_by r.progress b; key = r.key; iv = more_of r.iv r.progress b; ad = r.ad; text = r.text }
+fed_at Ad r b = record { progress = fed_by r.progress b; key = r.key; iv = r.iv; ad = more_of r.ad r.progress b; text = r.text }
+fed_at Text r b = record { progress = fed_by r.progress b; key = r.key; iv = r.iv; ad = r.ad; text = more_of r.text r.progress b }
+fed_at Whole r b = record { progress = fed_by r.progress b; key = r.key; iv = r.iv; ad = r.ad; text = more_of r.text r.progress b }
 
 -- the reader with one byte more
 unfoldable pub byte_taken : Reader → ℕ → Reader
-byte_taken r b = cond (eqb b line_feed) (line_ended r) (fed_at r.stage r b)
+byte_taken r b = cond (eqb b line_feed) (with_progress r (line_ended r.progress)) (fed_at r.progress.stage r b)
 
 -- something was read of a line
 abbrev pub begun : Option Line → Bool
@@ -93,7 +85,7 @@ remains_at Text line = true
 remains_at Whole line = true
 
 unfoldable pub remaining : Reader → Bool
-remaining r = remains_at r.stage r.line
+remaining r = remains_at r.progress.stage r.progress.line
 
 -- what is written where the input ends there
 abbrev pub last_line : Reader → List ℕ

@@ -5,7 +5,6 @@ use Rattle.hexadecimal.specs.Line.{line_of, InFront, Counted}
 use Rattle.records.specs.Answers.{Wrote}
 use Rattle.records.specs.Records.{Answering}
 use Rattle.records.specs.Reading.{State, in_key, in_iv, in_ad, in_text, Next, more, whole, after, written, scanned, left_of}
-use Rattle.records.specs.declared.reader.Field.{Field}
 use Rattle.records.specs.declared.reader.Reader.{Reader}
 use Rattle.records.specs.declared.reader.Stage.{Stage}
 use Rattle.records.specs.declared.reader.Stage.TheVariants.{Key, Iv, Ad, Text, Whole}
@@ -18,23 +17,30 @@ pub record FieldBuffers (key iv ad text : List ℕ) : Type 0 where
   pub for_text : longest_field ≤ length text
 
 abbrev pub HasRoom : Reader → Type 0
-HasRoom r = FieldBuffers r.key.bytes r.iv.bytes r.ad.bytes r.text.bytes
+HasRoom r = FieldBuffers r.key.now r.iv.now r.ad.now r.text.now
 
 -- this line of a record is at hand, and so much of it was read
 pub record At (r : Reader) (stage : Stage) (begun : List ℕ) : Type 0 where
-  pub ended : r.stage ≡ stage
-  pub begins : r.line ≡ line_of begun
-
--- a field has what its line stands for
-abbrev pub Holds : Field → List ℕ → Type 0
-Holds field line = Counted field.count field.bytes line
+  pub ended : r.progress.stage ≡ stage
+  pub begins : r.progress.line ≡ line_of begun
 
 abbrev pub Reads : Reader → Next → Type 0
-Reads r (more (in_key l)) = At r Key l × InFront l r.key.bytes
-Reads r (more (in_iv k l)) = At r Iv l × Holds r.key k × InFront l r.iv.bytes
-Reads r (more (in_ad k i l)) = At r Ad l × Holds r.key k × Holds r.iv i × InFront l r.ad.bytes
-Reads r (more (in_text k i a l)) = At r Text l × Holds r.key k × Holds r.iv i × Holds r.ad a × InFront l r.text.bytes
-Reads r (whole k i a t) = At r Whole [] × Holds r.key k × Holds r.iv i × Holds r.ad a × Holds r.text t
+Reads r (more (in_key l)) = At r Key l × InFront l r.key.now
+Reads r (more (in_iv k l)) = At r Iv l × Counted r.progress.key r.key.now k × InFront l r.iv.now
+Reads r (more (in_ad k i l)) =
+    At r Ad l × Counted r.progress.key r.key.now k × Counted r.progress.iv r.iv.now i × InFront l r.ad.now
+Reads r (more (in_text k i a l)) =
+    At r Text l
+    × Counted r.progress.key r.key.now k
+    × Counted r.progress.iv r.iv.now i
+    × Counted r.progress.ad r.ad.now a
+    × InFront l r.text.now
+Reads r (whole k i a t) =
+    At r Whole []
+    × Counted r.progress.key r.key.now k
+    × Counted r.progress.iv r.iv.now i
+    × Counted r.progress.ad r.ad.now a
+    × Counted r.progress.text r.text.now t
 
 -- the reader remembers that this was read
 pub record Remembers (r : Reader) (read : Next) : Type 0 where

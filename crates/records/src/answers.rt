@@ -42,7 +42,7 @@ pub fn write_bad(out: &mut [u8]) -> usize
 
 // What is written where the input ends: `cut`, for what remains without its four line feeds, or nothing if it ends with a whole
 // record.
-pub fn write_last(out: &mut [u8], reader: &Reader) -> usize
+pub fn write_last(out: &mut [u8], reader: &Reader<'_>) -> usize
     requires { 4 ≤ length out.old }
     ensures { Wrote (last_line reader.now) out.old out.new result }
 {

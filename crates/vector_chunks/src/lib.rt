@@ -17,7 +17,7 @@ pub struct Service {
 
 // Takes in the chunk from index `at` on, up to the end of the next whole record or of the chunk, and writes the record's
 // answer to the front of `out`, or nothing where no record is whole. A chunk and a place go in here and below, as in `scan`.
-pub fn serve(out: &mut [u8], reader: &mut Reader, chunk: &[u8], at: usize) -> Service
+pub fn serve(out: &mut [u8], reader: &mut Reader<'_>, chunk: &[u8], at: usize) -> Service
     requires { LONGEST_ANSWER ≤ length out.old }
     ensures served { Served answer_line reader.old chunk.now at out.old reader.new result.at out.new result.count }
     ensures at_lt_at { at < length chunk.now → at < result.at }
@@ -33,7 +33,7 @@ pub fn serve(out: &mut [u8], reader: &mut Reader, chunk: &[u8], at: usize) -> Se
 
 // Takes in the chunk from index `at` on while the output has room for one more answer, and writes the answers one behind the
 // other to the front of `out`. A service says how far it went, so that the loop is no `for`.
-pub fn serve_chunk(out: &mut [u8], reader: &mut Reader, chunk: &[u8], at: usize) -> Service
+pub fn serve_chunk(out: &mut [u8], reader: &mut Reader<'_>, chunk: &[u8], at: usize) -> Service
     requires { LONGEST_ANSWER ≤ length out.old }
     ensures served { Served answer_line reader.old chunk.now at out.old reader.new result.at out.new result.count }
     ensures at_lt_at { at < length chunk.now → at < result.at }

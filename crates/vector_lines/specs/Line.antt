@@ -22,7 +22,11 @@ answer_line key iv ad text =
 
 -- the answer to the whole record that was read
 abbrev pub record_line : Reader → List ℕ
-record_line r = cond (all_good r) (answer_line (field_bytes r.key) (field_bytes r.iv) (field_bytes r.ad) (field_bytes r.text)) bad_line
+record_line r =
+    cond (all_good r)
+    (answer_line (field_bytes r.progress.key r.key.now) (field_bytes r.progress.iv r.iv.now)
+    (field_bytes r.progress.ad r.ad.now) (field_bytes r.progress.text r.text.now))
+    bad_line
 
 -- what the vector program writes for an input: a line for each record, and `cut` for what remains
 abbrev pub program_output : List ℕ → List ℕ

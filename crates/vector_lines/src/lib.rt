@@ -32,7 +32,7 @@ pub fn answer_bytes(out: &mut [u8], fields: Record<'_>) -> usize
 
 // Writes the line that answers the whole record that was read to the front of `out`: `bad` where a line of it is not good. What
 // stands behind the line stays.
-pub fn answer_record(out: &mut [u8], reader: &Reader) -> usize
+pub fn answer_record(out: &mut [u8], reader: &Reader<'_>) -> usize
     requires { LONGEST_ANSWER ≤ length out.old }
     ensures { Wrote (record_line reader.now) out.old out.new result }
 {

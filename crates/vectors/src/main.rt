@@ -84,7 +84,12 @@ fn answer_input<R: Read, W: Write>(
     requires { LONGEST_ANSWER ≤ length out.old }
     ensures { Ended answer_line (turns_left result) (last_of result) (is_unwritten result) (is_unread result) out.new }
 {
-    let mut reader = Reader::new();
+    // A buffer for each field, all zero at first (rule R13.8).
+    let mut key = [0; 4096];
+    let mut iv = [0; 4096];
+    let mut ad = [0; 4096];
+    let mut text = [0; 4096];
+    let mut reader = Reader::new(&mut key, &mut iv, &mut ad, &mut text);
     for chunks in 0..u64::MAX {
         let n = read_chunk(from, chunk).map_err(|_| Failure::Read { chunks })?;
         if n == 0 {
@@ -115,7 +120,11 @@ fn read_chunk<R: Read>(from: &mut R, chunk: &mut [u8]) -> io::Result<usize>
 }
 
 // Answers what remains where the input ends, and says how many bytes were handed out for it.
-fn answer_rest<W: Write>(to: &mut W, out: &mut [u8], reader: &Reader) -> Result<usize, Unwritten>
+fn answer_rest<W: Write>(
+    to: &mut W,
+    out: &mut [u8],
+    reader: &Reader<'_>,
+) -> Result<usize, Unwritten>
     requires { 4 ≤ length out.old }
     ensures { Wrote (last_line reader.now) out.old out.new (handed_of result) }
 {
@@ -138,7 +147,7 @@ fn hand_out<W: Write>(to: &mut W, bytes: &[u8]) -> Result<usize, Unwritten>
 fn answer_chunk<W: Write>(
     to: &mut W,
     out: &mut [u8],
-    reader: &mut Reader,
+    reader: &mut Reader<'_>,
     chunk: &[u8],
 ) -> Result<(), Stopped>
     requires { LONGEST_ANSWER ≤ length out.old }

@@ -4,12 +4,13 @@ use mathlib.Core.Path.{◌≡◌, sym, ap, ◌∙◌}
 use mathlib.Core.List.{List, ◌++◌}
 use Prim.Native.Nat.{ℕ, ◌-◌, ◌/◌, ◌%◌, ◌<◌, min}
 use native.Mathlib.Omega.{arith}
-use lib.ListN.{length, take, drop, length-drop}
+use lib.ListN.{length, take, drop, length-take, length-drop}
 use lib.Seq.{take_all}
 use Rattle.octets.specs.Bytes.{xored}
 use Rattle.aes.specs.Under.{enciphered_under}
 use Rattle.aes.proofs.CipherLaws.{length-enciphered}
 use Rattle.counter.specs.Counter.{stepped, crypted}
+use Rattle.counter.proofs.CryptLaws.{xored_only}
 use Rattle.pieces.specs.Piece.{counter_at}
 use Rattle.pieces.proofs.CryptAtLaws.{part, filled}
 use Rattle.pieces.proofs.PieceLaws.{crypted_at-whole, crypted_at_fill}
@@ -46,7 +47,8 @@ returns c =
     c.min-n.ensures ∙ ap (λ (k : ℕ). min k (length piece)) (sym size) in
     let cut : take (16 - r) (drop r (e j)) ≡ drop r (e j) = take_all (16 - r) (drop r (e j)) (omega arith) in
     let first : wrote ≡ xored (take n piece) (drop r (e j)) =
-    c.xor_into.ensures ∙ ap (xored (take n piece)) (ap (λ (b : List ℕ). take (16 - r) (drop r b)) block-is ∙ cut) in
+    xored_only _ _ _ c.xor_into.ensures (simp length-take (omega (arith, c.requires.piece_in_bounds, c.min-n.ensures)))
+    ∙ ap (xored (take n piece)) (ap (λ (b : List ℕ). take (16 - r) (drop r b)) block-is ∙ cut) in
     let then : c.crypt-2.new.out ≡ crypted e j (part n piece) ++ drop (length (part n piece)) (part n (wrote ++ drop n out)) =
     c.crypt-2.ensures
     ∙ ap (λ (i : List ℕ). crypted e i (part n piece) ++ drop (length (part n piece)) (part n (wrote ++ drop n out))) next-is in

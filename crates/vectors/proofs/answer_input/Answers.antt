@@ -3,9 +3,8 @@
 use Rattle.std.proofs.Common.{◌≡◌, ◌<◌, ◌-◌, ◌+◌, ◌∙◌, ap, arith, le_of_eq, rules, subst, Ok, length, length-take, refl, sym, take, take_all, true≢false}
 use Rattle.std.proofs.lemmas.Result.{err_from_is_err_and, MatchResult-at_err}
 use Rattle.records.specs.Input.{most_turns}
-use Rattle.records.specs.Kept.{fresh_reader}
-use Rattle.records.proofs.InputLaws.{carried_start, taken_then, carried_then, ended-whole, ended_before}
-use Rattle.records.proofs.ScanLaws.{fresh_room}
+use Rattle.records.proofs.InputLaws.{Carried, carried_start, taken_then, carried_then, ended-whole, ended_before}
+use Rattle.records.proofs.ScanLaws.{begins_new}
 use Rattle.vector_lines.specs.Line.{answer_line}
 use Rattle.vectors.specs.End.{taken_of}
 use Rattle.std.specs.Io.{ReadsAtMost}
@@ -14,7 +13,9 @@ use Rattle.vectors.proofs.ResultLaws.{not_ok}
 use Rattle.vectors.proofs.answer_input.Goals as goal
 
 pub loop-chunks-init : goal.loop-chunks-init
-loop-chunks-init g c = (refl, refl, rw c.new-reader.ensures (carried_start answer_line _ fresh_reader fresh_room))
+loop-chunks-init g c =
+    let begun = begins_new _ _ _ _ _ c.new-reader.ensures refl refl refl refl in
+    (refl, refl, subst (Carried answer_line _ _) begun.1 (carried_start answer_line _ c.new-reader.result begun.0))
 
 pub returns-then-n-eq0 : goal.returns-then-n-eq0
 returns-then-n-eq0 g c =
