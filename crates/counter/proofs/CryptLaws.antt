@@ -27,13 +27,22 @@ xored_more out₀ text block out i in-out in_text in_block so_far =
     ∙ paste-suc out₀ 0 (xored text block) i 0 (rw (from i) in-out) in-xor
     ∙ ap₂ (λ n k. take n (xored text block) ++ drop k out₀) (sym first) (from (suc i) ∙ sym first)
 
--- and then all are
-pub xored_all : (out₀ text block out : List ℕ) (i : ℕ) → out ≡ take i (xored text block) ++ drop i out₀
+-- and then all are, in front of what stood there behind the text
+pub xored_in_front : (out₀ text block out : List ℕ) (i : ℕ) → out ≡ take i (xored text block) ++ drop i out₀
     → length text ≤ length block → i ≡ length text
     → out ≡ xored text block ++ drop (length text) out₀
-xored_all out₀ text block out i so_far room end =
+xored_in_front out₀ text block out i so_far room end =
     so_far
     ∙ ap₂ (λ (a b : List ℕ). a ++ b) (take_all i _ (rw (length-xored_le text block room) (omega arith))) (ap (λ n. drop n out₀) end)
+
+-- in an output of the text's own length the xor is all that stands, wherever past the text's end i is
+pub xored_all : (out₀ text block out : List ℕ) (i : ℕ) → out ≡ take i (xored text block) ++ drop i out₀
+    → length out₀ ≡ length text → length text ≤ length block → length text ≤ i
+    → out ≡ xored text block
+xored_all out₀ text block out i so_far same room end =
+    so_far
+    ∙ ap₂ (λ (a b : List ℕ). a ++ b) (take_all i _ (rw (length-xored_le text block room) (omega arith))) (drop_of_length-le out₀ (omega arith))
+    ∙ append-nil (xored text block)
 
 -- where the output has no more bytes than the text, nothing stands behind
 pub xored_only : (out₀ text block : List ℕ) {out : List ℕ} → out ≡ xored text block ++ drop (length text) out₀
